@@ -1,0 +1,2 @@
+mod LaneBits
+mod StampNumbers

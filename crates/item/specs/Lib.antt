@@ -1,0 +1,4 @@
+pub mod Faults
+pub mod Tickets
+pub mod Lanes
+pub mod Stamps
