@@ -2,3 +2,4 @@ pub mod Faults
 pub mod Tickets
 pub mod Lanes
 pub mod Stamps
+pub mod Items

@@ -47,8 +47,8 @@ module _ {I : Type 0} (number : I → ℕ) where
   new-from-none : (m : Method I) (k : ℕ) (os : List (Operation I)) → firstAlike number m k os ≡ None → New m os
   new-from-none m k [] e = tt
   new-from-none m k (o ∷ os) e =
-    let p = not-there (alike number (o .method) m) k (firstAlike number m (k + 1) os) e in
-    (unlike (o .method) m (p .0), new-from-none m (k + 1) os (p .1))
+      let p = not-there (alike number (o .method) m) k (firstAlike number m (k + 1) os) e in
+      (unlike (o .method) m (p .0), new-from-none m (k + 1) os (p .1))
 
   -- what an operation that is entered obeys
   pub record Entered (room : ℕ) (os : List (Operation I)) (op : Operation I) : Type 0 where
@@ -58,19 +58,20 @@ module _ {I : Type 0} (number : I → ℕ) where
 
   pub enter-back : (room at : ℕ) (os : List (Operation I)) (op : Operation I) → enterAnswer number room os op ≡ Ok at → Entered room os op
   enter-back room at os op e =
-    let p = passed (leb room (length os)) (Full (length os)) _ at e in
-    let q = passed (ltb (op .end) (op .start)) (EndBeforeStart (length os)) _ at (p .1) in
-    record {
-      place = let t = p .0 in grind (arith, tells);
-      timed = let t = q .0 in grind (arith, tells);
-      fresh = new-from-none (op .method) 0 os (no-other (op .method) (length os) at (firstAlike number (op .method) 0 os) (q .1)) }
+      let p = passed (leb room (length os)) (Full (length os)) _ at e in
+      let q = passed (ltb (op .end) (op .start)) (EndBeforeStart (length os)) _ at (p .1) in
+      record {
+        place = let t = p .0 in grind (arith, tells);
+        timed = let t = q .0 in grind (arith, tells);
+        fresh = new-from-none (op .method) 0 os (no-other (op .method) (length os) at (firstAlike number (op .method) 0 os) (q .1));
+      }
 
 module _ {I : Type 0} where
   consistent-push : (os ops : List (Operation I)) (op : Operation I) → Consistent os ops → op .start ≤ op .end → New (op .method) (os ++ ops) →
-    Consistent os (ops ++ op ∷ [])
+      Consistent os (ops ++ op ∷ [])
   consistent-push os [] op s t f = (t, subst (New (op .method)) (append-nil os) f, tt)
   consistent-push os (o ∷ ops) op s t f =
-    (s .0, s .1, consistent-push (os ++ o ∷ []) ops op (s .2) t (subst (New (op .method)) (sym (append-assoc os (o ∷ []) ops)) f))
+      (s .0, s .1, consistent-push (os ++ o ∷ []) ops op (s .2) t (subst (New (op .method)) (sym (append-assoc os (o ∷ []) ops)) f))
 
   taken : (xs : List (Operation I)) (k : ℕ) (x : Operation I) → k < length xs → take (k + 1) (set xs k x) ≡ take k xs ++ x ∷ []
   taken xs k x h = rw add-one (take-suc-set xs k x h)
@@ -85,16 +86,17 @@ module _ {I : Type 0} where
     pub memory : set mem count op ≡ set mem (length (take count mem)) op
 
   pub grown : (number : I → ℕ) (mem : List (Operation I)) (count at : ℕ) (op : Operation I) → count ≤ length mem → count ≤ 1024 →
-    ∥ Consistent [] (take count mem) ∥₁ → enterAnswer number (min (length mem) 1024) (take count mem) op ≡ Ok at → Grown mem count op
+      ∥ Consistent [] (take count mem) ∥₁ → Ok at ≡ enterAnswer number (min (length mem) 1024) (take count mem) op → Grown mem count op
   grown number mem count at op w b s e =
-    let l = length-take-le count mem w in
-    let r = enter-back number (min (length mem) 1024) at (take count mem) op e in
-    let p = r .place in
-    let f : count < length mem = omega arith in
-    record {
-      within = simp length-set (omega arith);
-      bounded = omega arith;
-      fits = f;
-      consistent = ∥∥₁-map s (λ t. subst (Consistent []) (sym (taken mem count op f)) (consistent-push [] (take count mem) op t (r .timed) (r .fresh)));
-      entered = taken mem count op f;
-      memory = ap (λ n. set mem n op) (sym l) }
+      let l = length-take-le count mem w in
+      let r = enter-back number (min (length mem) 1024) at (take count mem) op (sym e) in
+      let p = r .place in
+      let f : count < length mem = omega arith in
+      record {
+        within = simp length-set (omega arith);
+        bounded = omega arith;
+        fits = f;
+        consistent = ∥∥₁-map s (λ t. subst (Consistent []) (sym (taken mem count op f)) (consistent-push [] (take count mem) op t (r .timed) (r .fresh)));
+        entered = taken mem count op f;
+        memory = ap (λ n. set mem n op) (sym l);
+      }

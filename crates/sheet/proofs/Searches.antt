@@ -19,21 +19,21 @@ use Rattle.sheet.specs.Pairing.{AddsItem, IsAdd, LowestAdd}
 
 module _ {I : Type 0} (number : I → ℕ) (m : Method I) (k : ℕ) (xs : List (Operation I)) where
   step : (x : Operation I) → k < length xs → x ≡ getD xs k x →
-    firstAlike number m k (drop k xs) ≡ cond (alike number (x .method) m) (Some k) (firstAlike number m (k + 1) (drop (k + 1) xs))
+      firstAlike number m k (drop k xs) ≡ cond (alike number (x .method) m) (Some k) (firstAlike number m (k + 1) (drop (k + 1) xs))
   step x h e = rw (drop-cons xs k x h, add-one, ← e)
 
   pub found : (x : Operation I) → k < length xs → x ≡ getD xs k x →
-    firstAlike number m 0 xs ≡ firstAlike number m k (drop k xs) → true ≡ alike number (getD xs k x .method) m →
-    Some k ≡ firstAlike number m 0 xs
+      firstAlike number m 0 xs ≡ firstAlike number m k (drop k xs) → true ≡ alike number (getD xs k x .method) m →
+      Some k ≡ firstAlike number m 0 xs
   found x h e inv t = let s = step x h e in let u = ap (λ o. alike number (o .method) m) e in cc
 
   pub passed : (x : Operation I) → k < length xs → x ≡ getD xs k x →
-    firstAlike number m 0 xs ≡ firstAlike number m k (drop k xs) → false ≡ alike number (getD xs k x .method) m →
-    firstAlike number m 0 xs ≡ firstAlike number m (k + 1) (drop (k + 1) xs)
+      firstAlike number m 0 xs ≡ firstAlike number m k (drop k xs) → false ≡ alike number (getD xs k x .method) m →
+      firstAlike number m 0 xs ≡ firstAlike number m (k + 1) (drop (k + 1) xs)
   passed x h e inv t = let s = step x h e in let u = ap (λ o. alike number (o .method) m) e in cc
 
   pub nowhere : length xs ≤ k → k ≤ length xs →
-    firstAlike number m 0 xs ≡ firstAlike number m k (drop k xs) → None ≡ firstAlike number m 0 xs
+      firstAlike number m 0 xs ≡ firstAlike number m k (drop k xs) → None ≡ firstAlike number m 0 xs
   nowhere h j inv = let e : k ≡ length xs = omega arith in cc (drop-length xs)
 
 module _ {I : Type 0} (number : I → ℕ) (x : I) where
@@ -53,19 +53,19 @@ module _ {I : Type 0} (number : I → ℕ) (x : I) where
   LowestFrom k os (Some i) = (j : ℕ) × (i ≡ k + j) × IsAdd number (number x) os j × ((l : ℕ) → l < j → IsAdd number (number x) os l → ⊥)
 
   more : (k : ℕ) (o : Operation I) (os : List (Operation I)) (r : Option ℕ) → alike number (o .method) (Add x) ≡ false →
-    LowestFrom (k + 1) os r → LowestFrom k (o ∷ os) r
+      LowestFrom (k + 1) os r → LowestFrom k (o ∷ os) r
   unfolding LowestFrom
   more k o os None e h = elim [ zero ↦ adds-unlike (o .method) e | suc j ↦ h j ]
-  more k o os (Some i) e h =
-    ( suc (h .0)
-    , (let p = h .1 in omega arith)
-    , h .2
-    , elim [ zero ↦ (λ l. adds-unlike (o .method) e) | suc j ↦ (λ l. h .3 j (omega arith)) ]
-    )
+  more k o os (Some i) e h = (
+    suc (h .0),
+    (let p = h .1 in omega arith),
+    h .2,
+    elim [ zero ↦ (λ l. adds-unlike (o .method) e) | suc j ↦ (λ l. h .3 j (omega arith)) ],
+  )
 
   pick : (k : ℕ) (o : Operation I) (os : List (Operation I)) (b : Bool) → alike number (o .method) (Add x) ≡ b →
-    LowestFrom (k + 1) os (firstAlike number (Add x) (k + 1) os) →
-    LowestFrom k (o ∷ os) (cond b (Some k) (firstAlike number (Add x) (k + 1) os))
+      LowestFrom (k + 1) os (firstAlike number (Add x) (k + 1) os) →
+      LowestFrom k (o ∷ os) (cond b (Some k) (firstAlike number (Add x) (k + 1) os))
   unfolding LowestFrom
   pick k o os true e h = (0, omega arith, adds-alike (o .method) e, λ l z. absurd (omega arith))
   pick k o os false e h = more k o os (firstAlike number (Add x) (k + 1) os) e h
@@ -79,8 +79,8 @@ module _ {I : Type 0} (number : I → ℕ) (x : I) where
   unfolding LowestFrom
   from-zero os None h = h
   from-zero os (Some i) h =
-    let e : h .0 ≡ i = let p = h .1 in omega arith in
-    (subst (IsAdd number (number x) os) e (h .2), λ j l. h .3 j (omega arith))
+      let e : h .0 ≡ i = let p = h .1 in omega arith in
+      (subst (IsAdd number (number x) os) e (h .2), λ j l. h .3 j (omega arith))
 
   pub lowest-add : (os : List (Operation I)) (r : Option ℕ) → r ≡ firstAlike number (Add x) 0 os → LowestAdd number (number x) os r
   lowest-add os r e = from-zero os r (subst (LowestFrom 0 os) (sym e) (lowest-from 0 os))
