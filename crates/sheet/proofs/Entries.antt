@@ -7,8 +7,10 @@ use mathlib.Core.List.{List, [], _∷_, _++_, append-nil, append-assoc}
 use native.Mathlib.Numerals.{add-one}
 use native.Mathlib.Omega.{arith}
 use lib.Dec.{leb, ltb}
-use lib.ListN.{length, take, set, length-set}
-use lib.Seq.{take-suc-set, length-take-le}
+use lib.ListN.{length, take, drop, set, length-set}
+use lib.Seq.{take-suc-set, length-take-le, drop-set-lt}
+use Rattle.std.proofs.shelf.Lists.{take-append-drop}
+use Rattle.sheet.specs.Sheets.{filled}
 use Rattle.std.proofs.shelf.Ways.{tells}
 use Rattle.std.specs.declared.option.Option.{Option}
 use Rattle.std.specs.declared.option.Option.the-variants.{None, Some}
@@ -66,6 +68,14 @@ module _ {I : Type 0} (number : I → ℕ) where
         fresh = new-from-none (op .method) 0 os (no-other (op .method) (length os) at (firstAlike number (op .method) 0 os) (q .1));
       }
 
+  -- the number that is answered is the place
+  pub enter-number : (room at : ℕ) (os : List (Operation I)) (op : Operation I) → enterAnswer number room os op ≡ Ok at → enterAnswer number room os op ≡ Ok (length os)
+  enter-number room at os op e =
+      let p = passed (leb room (length os)) (Full (length os)) _ at e in
+      let q = passed (ltb (op .end) (op .start)) (EndBeforeStart (length os)) _ at (p .1) in
+      let n = no-other (op .method) (length os) at (firstAlike number (op .method) 0 os) (q .1) in
+      e ∙ sym (q .1) ∙ ap (unlessRepeated (op .method) (length os)) n
+
 module _ {I : Type 0} where
   consistent-push : (os ops : List (Operation I)) (op : Operation I) → Consistent os ops → op .start ≤ op .end → New (op .method) (os ++ ops) →
       Consistent os (ops ++ op ∷ [])
@@ -76,6 +86,14 @@ module _ {I : Type 0} where
   taken : (xs : List (Operation I)) (k : ℕ) (x : Operation I) → k < length xs → take (k + 1) (set xs k x) ≡ take k xs ++ x ∷ []
   taken xs k x h = rw add-one (take-suc-set xs k x h)
 
+  written : (xs : List (Operation I)) (k : ℕ) (x : Operation I) → k < length xs → set xs k x ≡ filled (take (k + 1) (set xs k x)) xs
+  written xs k x h =
+    let n = length-set xs k x in
+    let l = length-take-le (k + 1) (set xs k x) (omega arith) in
+    let m : k < length (take (k + 1) (set xs k x)) = omega arith in
+    sym (take-append-drop (k + 1) (set xs k x)) ∙ ap (λ j. take (k + 1) (set xs k x) ++ drop j (set xs k x)) (sym l)
+    ∙ ap (λ z. take (k + 1) (set xs k x) ++ z) (drop-set-lt (length (take (k + 1) (set xs k x))) xs k x m)
+
   -- a sheet once an operation is entered: its invariant, and what it holds
   pub record Grown (mem : List (Operation I)) (count : ℕ) (op : Operation I) : Type 0 where
     pub within : count + 1 ≤ length (set mem count op)
@@ -83,7 +101,8 @@ module _ {I : Type 0} where
     pub fits : count < length mem
     pub consistent : ∥ Consistent [] (take (count + 1) (set mem count op)) ∥₁
     pub entered : take (count + 1) (set mem count op) ≡ take count mem ++ op ∷ []
-    pub memory : set mem count op ≡ set mem (length (take count mem)) op
+    pub memory : set mem count op ≡ filled (take (count + 1) (set mem count op)) mem
+    pub room : min (length (set mem count op)) 1024 ≡ min (length mem) 1024
 
   pub grown : (number : I → ℕ) (mem : List (Operation I)) (count at : ℕ) (op : Operation I) → count ≤ length mem → count ≤ 1024 →
       ∥ Consistent [] (take count mem) ∥₁ → Ok at ≡ enterAnswer number (min (length mem) 1024) (take count mem) op → Grown mem count op
@@ -98,5 +117,6 @@ module _ {I : Type 0} where
         fits = f;
         consistent = ∥∥₁-map s (λ t. subst (Consistent []) (sym (taken mem count op f)) (consistent-push [] (take count mem) op t (r .timed) (r .fresh)));
         entered = taken mem count op f;
-        memory = ap (λ n. set mem n op) (sym l);
+        memory = written mem count op f;
+        room = ap (λ n. min n 1024) (length-set mem count op);
       }

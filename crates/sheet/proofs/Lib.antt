@@ -1,2 +1,3 @@
 mod Searches
 pub mod Entries
+pub mod Fills

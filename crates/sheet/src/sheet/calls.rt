@@ -2,14 +2,14 @@ ghost use mathlib.Core.Path.{_≡_};
 ghost use mathlib.Core.Bool.{cond};
 ghost use mathlib.Core.List.{[], _∷_, _++_};
 ghost use Prim.Native.Nat.{_≤_};
-ghost use lib.ListN.{length, set};
+ghost use lib.ListN.{length};
 ghost use denote.Ref.{name};
 ghost use Rattle.std.specs.Results.{isOk};
 ghost use Rattle.std.specs.shelf.Maps.{nth};
 ghost use Rattle.sheet.specs.Entering.{enterAnswer, repeatedFault};
 ghost use Rattle.sheet.specs.Pairing.{pairOf};
 ghost use Rattle.sheet.specs.Consistency.{Consistent};
-ghost use Rattle.sheet.specs.Sheets.{memory, entered, room};
+ghost use Rattle.sheet.specs.Sheets.{memory, entered, room, filled};
 use crate::fault::SheetFault;
 use crate::operation::Method;
 use crate::operation::Operation;
@@ -78,7 +78,8 @@ impl<'a, I: Item> Sheet<'a, I> {
     pub fn enter(&mut self, op: Operation<I>) -> Result<u16, SheetFault>
         ensures answer { λ r. ⌜ r ≡ enterAnswer (I·Item .number) (room (now (self .entry))) (entered (now (self .entry))) op ⌝ }
         ensures entered { λ r. ⌜ entered (now (self .exit)) ≡ cond (isOk r) (entered (now (self .entry)) ++ op ∷ []) (entered (now (self .entry))) ⌝ }
-        ensures memory { λ r. ⌜ memory (now (self .exit)) ≡ cond (isOk r) (set (memory (now (self .entry))) (length (entered (now (self .entry)))) op) (memory (now (self .entry))) ⌝ }
+        ensures memory { λ r. ⌜ memory (now (self .exit)) ≡ filled (entered (now (self .exit))) (memory (now (self .entry))) ⌝ }
+        ensures room { λ r. ⌜ room (now (self .exit)) ≡ room (now (self .entry)) ⌝ }
         ensures lender { λ r. ⌜ name (now (self .exit) .records) ≡ name (now (self .entry) .records) ⌝ }
     {
         let number = self.judge(&op)?;
@@ -92,6 +93,7 @@ impl<'a, I: Item> Sheet<'a, I> {
     pub fn clear(&mut self)
         ensures entered { λ _. ⌜ entered (now (self .exit)) ≡ [] ⌝ }
         ensures memory { λ _. ⌜ memory (now (self .exit)) ≡ memory (now (self .entry)) ⌝ }
+        ensures room { λ _. ⌜ room (now (self .exit)) ≡ room (now (self .entry)) ⌝ }
         ensures lender { λ _. ⌜ name (now (self .exit) .records) ≡ name (now (self .entry) .records) ⌝ }
     {
         self.count = 0;

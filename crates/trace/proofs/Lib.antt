@@ -1,0 +1,6 @@
+mod HeaderFields
+mod OrderNumbers
+mod Entries
+mod Runs
+mod Readings
+mod Writes

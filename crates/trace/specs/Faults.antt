@@ -1,0 +1,40 @@
+-- What each fault of the frame layer says, and what the faults below say through it.
+use Prim.Native.Nat.{ℕ}
+use Rattle.refusal.specs.declared.Layer.the-variants as layer
+use Rattle.refusal.specs.declared.Refusal.{Refusal}
+use Rattle.sheet.specs.Faults.{sheetRefusal}
+use Rattle.record.specs.Faults.{recordRefusal}
+use Rattle.trace.specs.declared.fault.FrameFault.{FrameFault}
+use Rattle.trace.specs.declared.fault.FrameFault.the-variants.{Short, Version, Kind, ItemType, SpareBit, Count, Length}
+use Rattle.trace.specs.declared.fault.EntryFault.{EntryFault}
+use Rattle.trace.specs.declared.fault.EntryFault.the-variants.{Record, Sheet}
+use Rattle.trace.specs.declared.fault.ReadFault.{ReadFault}
+use Rattle.trace.specs.declared.fault.ReadFault.the-variants.{Frame, Entry}
+use Rattle.trace.specs.declared.fault.WriteFault.{WriteFault}
+use Rattle.trace.specs.declared.fault.WriteFault.the-variants as writing
+
+-- a refusal of the frame has no place and no detail
+abbrev pub ofFrame : ℕ → Refusal
+ofFrame number = record { layer = layer.Frame; number = number; place = 0; detail = 0 }
+
+abbrev pub frameRefusal : FrameFault → Refusal
+frameRefusal Short = ofFrame 1
+frameRefusal Version = ofFrame 2
+frameRefusal Kind = ofFrame 3
+frameRefusal ItemType = ofFrame 4
+frameRefusal SpareBit = ofFrame 5
+frameRefusal Count = ofFrame 6
+frameRefusal Length = ofFrame 7
+
+abbrev pub entryRefusal : ℕ → EntryFault → Refusal
+entryRefusal place (Record fault) = recordRefusal place fault
+entryRefusal place (Sheet fault) = sheetRefusal fault
+
+abbrev pub readRefusal : ReadFault → Refusal
+readRefusal (Frame fault) = frameRefusal fault
+readRefusal (Entry refused) = entryRefusal (refused .place) (refused .fault)
+
+abbrev pub writeRefusal : WriteFault → Refusal
+writeRefusal writing.Kind = ofFrame 3
+writeRefusal writing.OrderLength = ofFrame 52
+writeRefusal writing.Memory = ofFrame 51
