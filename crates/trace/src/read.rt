@@ -64,16 +64,13 @@ fn take_all<I: Item>(trace: &Trace, sheet: &mut Sheet<I>) -> Result<(), RefusedR
     Ok(())
 }
 
-// Reads a trace onto a sheet. A refused header leaves the sheet as it was; a refused record leaves the earlier ones entered.
-pub fn read<'a, I: Item>(bytes: &'a [u8], sheet: &mut Sheet<I>) -> Result<Accepted<'a>, ReadFault>
+// The header's checks, and then the records in turn.
+fn read_parts<'a, I: Item>(bytes: &'a [u8], sheet: &mut Sheet<I>) -> Result<Accepted<'a>, ReadFault>
     ensures answer { λ r. ⌜ shown r ≡ answered (reading I·Item (room (now (sheet .entry))) (now (bytes .entry))) ⌝ }
     ensures entered { λ r. ⌜ entered (now (sheet .exit)) ≡ held (entered (now (sheet .entry))) (reading I·Item (room (now (sheet .entry))) (now (bytes .entry))) ⌝ }
     ensures memory { λ r. ⌜ memory (now (sheet .exit)) ≡ filled (entered (now (sheet .exit))) (memory (now (sheet .entry))) ⌝ }
     ensures room { λ r. ⌜ room (now (sheet .exit)) ≡ room (now (sheet .entry)) ⌝ }
     ensures lender { λ r. ⌜ name (now (sheet .exit) .records) ≡ name (now (sheet .entry) .records) ⌝ }
-    ensures accepted_is_sound { λ r. ⌜ made r (λ a. Sound I·Item (room (now (sheet .entry))) (contentsOf a (entered (now (sheet .exit))))) ⌝ }
-    ensures accepted_is_encoded { λ r. ⌜ made r (λ a. now (bytes .entry) ≡ encode I·Item (contentsOf a (entered (now (sheet .exit))))) ⌝ }
-    ensures encoded_sound_is_accepted { λ r. ⌜ ((c : Contents I) → Sound I·Item (room (now (sheet .entry))) c → now (bytes .entry) ≡ encode I·Item c → (shown r ≡ Ok (sayingOf c)) × (entered (now (sheet .exit)) ≡ c .ops)) ⌝ }
 {
     let header = read_header(bytes, I::type_code())?;
     sheet.clear();
@@ -85,4 +82,18 @@ pub fn read<'a, I: Item>(bytes: &'a [u8], sheet: &mut Sheet<I>) -> Result<Accept
         k: header.k,
         order,
     })
+}
+
+// Reads a trace onto a sheet. A refused header leaves the sheet as it was; a refused record leaves the earlier ones entered.
+pub fn read<'a, I: Item>(bytes: &'a [u8], sheet: &mut Sheet<I>) -> Result<Accepted<'a>, ReadFault>
+    ensures answer { λ r. ⌜ shown r ≡ answered (reading I·Item (room (now (sheet .entry))) (now (bytes .entry))) ⌝ }
+    ensures entered { λ r. ⌜ entered (now (sheet .exit)) ≡ held (entered (now (sheet .entry))) (reading I·Item (room (now (sheet .entry))) (now (bytes .entry))) ⌝ }
+    ensures memory { λ r. ⌜ memory (now (sheet .exit)) ≡ filled (entered (now (sheet .exit))) (memory (now (sheet .entry))) ⌝ }
+    ensures room { λ r. ⌜ room (now (sheet .exit)) ≡ room (now (sheet .entry)) ⌝ }
+    ensures lender { λ r. ⌜ name (now (sheet .exit) .records) ≡ name (now (sheet .entry) .records) ⌝ }
+    ensures accepted_is_sound { λ r. ⌜ made r (λ a. Sound I·Item (room (now (sheet .entry))) (contentsOf a (entered (now (sheet .exit))))) ⌝ }
+    ensures accepted_is_encoded { λ r. ⌜ made r (λ a. now (bytes .entry) ≡ encode I·Item (contentsOf a (entered (now (sheet .exit))))) ⌝ }
+    ensures encoded_sound_is_accepted { λ r. ⌜ ((c : Contents I) → Sound I·Item (room (now (sheet .entry))) c → now (bytes .entry) ≡ encode I·Item c → (shown r ≡ Ok (sayingOf c)) × (entered (now (sheet .exit)) ≡ c .ops)) ⌝ }
+{
+    read_parts(bytes, sheet)
 }
