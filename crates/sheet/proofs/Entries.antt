@@ -88,11 +88,11 @@ module _ {I : Type 0} where
 
   written : (xs : List (Operation I)) (k : ℕ) (x : Operation I) → k < length xs → set xs k x ≡ filled (take (k + 1) (set xs k x)) xs
   written xs k x h =
-    let n = length-set xs k x in
-    let l = length-take-le (k + 1) (set xs k x) (omega arith) in
-    let m : k < length (take (k + 1) (set xs k x)) = omega arith in
-    sym (take-append-drop (k + 1) (set xs k x)) ∙ ap (λ j. take (k + 1) (set xs k x) ++ drop j (set xs k x)) (sym l)
-    ∙ ap (λ z. take (k + 1) (set xs k x) ++ z) (drop-set-lt (length (take (k + 1) (set xs k x))) xs k x m)
+      let n = length-set xs k x in
+      let l = length-take-le (k + 1) (set xs k x) (omega arith) in
+      let m : k < length (take (k + 1) (set xs k x)) = omega arith in
+      sym (take-append-drop (k + 1) (set xs k x)) ∙ ap (λ j. take (k + 1) (set xs k x) ++ drop j (set xs k x)) (sym l)
+      ∙ ap (λ z. take (k + 1) (set xs k x) ++ z) (drop-set-lt (length (take (k + 1) (set xs k x))) xs k x m)
 
   -- a sheet once an operation is entered: its invariant, and what it holds
   pub record Grown (mem : List (Operation I)) (count : ℕ) (op : Operation I) : Type 0 where

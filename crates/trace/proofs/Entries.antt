@@ -123,19 +123,19 @@ module _ {I : Type 0} (t : Ghosts I) where
     unfolding stands
     stands-of room os [] e = refl
     stands-of room os (op ∷ ops) e =
-      ap (λ r. isOk r && stands room (os ++ op ∷ []) ops) (e .1) ∙ stands-of room (os ++ op ∷ []) ops (e .2)
+        ap (λ r. isOk r && stands room (os ++ op ∷ []) ops) (e .1) ∙ stands-of room (os ++ op ∷ []) ops (e .2)
 
     enters-again : (room : ℕ) (os ops : List (Operation I)) → AllFit t ops → stands room os ops ≡ true → Enters room os ops
     unfolding stands
     enters-again room os [] a e = tt
     enters-again room os (op ∷ ops) a e =
-      let b = both-true (isOk (enterAnswer (t .number) room os op)) (stands room (os ++ op ∷ []) ops) e in
-      let w = was-ok (enterAnswer (t .number) room os op) (b .0) in
-      (a .0, enter-number (t .number) room (w .0) os op (w .1), enters-again room (os ++ op ∷ []) ops (a .1) (b .1))
+        let b = both-true (isOk (enterAnswer (t .number) room os op)) (stands room (os ++ op ∷ []) ops) e in
+        let w = was-ok (enterAnswer (t .number) room os op) (b .0) in
+        (a .0, enter-number (t .number) room (w .0) os op (w .1), enters-again room (os ++ op ∷ []) ops (a .1) (b .1))
 
     -- operations that are merely known to be consistent are so
     pub consistent-again : (ops : List (Operation I)) → AllFit t ops → ∥ Consistent [] ops ∥₁ → Consistent [] ops
     consistent-again ops a s =
-      let e : stands (length ops) [] ops ≡ true =
+        let e : stands (length ops) [] ops ≡ true =
         ∥∥₁-elim s (Bool-set _ _) (λ c. stands-of (length ops) [] ops (enters-of (length ops) [] ops tt a c (omega arith))) in
-      consistent-of (length ops) [] ops (enters-again (length ops) [] ops a e)
+        consistent-of (length ops) [] ops (enters-again (length ops) [] ops a e)

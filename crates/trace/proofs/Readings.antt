@@ -133,7 +133,7 @@ accepting t code room room′ bs bs′ h r c f m b l e =
     ap (framed t room bs) (ap (λ c. frameOf c bs) (sym c) ∙ sym f) ∙ ap (ended h bs) q
 
 -- an answer that accepts says the contents
-accepted-of : {I : Type 0} (r : Result Accepted ReadFault) (o : Outcome I) (old os : List (Operation I)) → shown r ≡ answered o → os ≡ held old o →
+pub accepted-of : {I : Type 0} (r : Result Accepted ReadFault) (o : Outcome I) (old os : List (Operation I)) → shown r ≡ answered o → os ≡ held old o →
     made r (λ a. o ≡ accepted (contentsOf a os))
 accepted-of (Err f) o old os e h = tt
 accepted-of (Ok a) (unread f) old os e h = let z : _≡_ {A = ℕ} 0 1 = cc in absurd (omega arith)
@@ -146,22 +146,22 @@ accepted-of {I} (Ok a) (accepted c) old os e h =
 
 module _ {I : Type 0} (t : Ghosts I) (law : Lawful t) (room : ℕ) (bs : List ℕ) where
   right-answer : Bytes bs → (r : Result Accepted ReadFault) (old os : List (Operation I)) → shown r ≡ answered (reading t room bs) → os ≡ held old (reading t room bs) →
-    made r (λ a. Right t law room bs (contentsOf a os))
+      made r (λ a. Right t law room bs (contentsOf a os))
   right-answer b (Err f) old os e h = tt
   right-answer b (Ok a) old os e h = reading-back t law room bs (contentsOf a os) b (accepted-of (Ok a) (reading t room bs) old os e h)
 
   pub sound-answer : Bytes bs → (r : Result Accepted ReadFault) (old os : List (Operation I)) → shown r ≡ answered (reading t room bs) → os ≡ held old (reading t room bs) →
-    made r (λ a. Sound t room (contentsOf a os))
+      made r (λ a. Sound t room (contentsOf a os))
   sound-answer b (Err f) old os e h = tt
   sound-answer b (Ok a) old os e h = right-answer b (Ok a) old os e h .sound
 
   pub encoded-answer : Bytes bs → (r : Result Accepted ReadFault) (old os : List (Operation I)) → shown r ≡ answered (reading t room bs) → os ≡ held old (reading t room bs) →
-    made r (λ a. bs ≡ encode t (contentsOf a os))
+      made r (λ a. bs ≡ encode t (contentsOf a os))
   encoded-answer b (Err f) old os e h = tt
   encoded-answer b (Ok a) old os e h = right-answer b (Ok a) old os e h .bytes
 
   pub exact-answer : (r : Result Accepted ReadFault) (old os : List (Operation I)) → shown r ≡ answered (reading t room bs) → os ≡ held old (reading t room bs) →
-    (c : Contents I) → Sound t room c → bs ≡ encode t c → (shown r ≡ Ok (sayingOf c)) × (os ≡ c .ops)
+      (c : Contents I) → Sound t room c → bs ≡ encode t c → (shown r ≡ Ok (sayingOf c)) × (os ≡ c .ops)
   exact-answer r old os e h c s p =
-    let q = reading-there t law room bs c s p in
-    (e ∙ ap answered q, h ∙ ap (held old) q)
+      let q = reading-there t law room bs c s p in
+      (e ∙ ap answered q, h ∙ ap (held old) q)

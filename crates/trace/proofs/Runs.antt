@@ -46,12 +46,12 @@ length-joined f w h (x ∷ xs) =
 pub handed-out : {X : Type 0} (i n : ℕ) (x y : X) → Some x ≡ cond (ltb i n) (Some y) None → (i < n) × (x ≡ y)
 handed-out i n x y e =
     ⊎-elim (λ (t : ltb i n ≡ true). let f = rw t at e in (ltb-true i n t, cc)) (λ (t : ltb i n ≡ false). let f = rw t at e in let z : _≡_ {A = ℕ} 0 1 = cc in absurd (omega arith))
-      (cases-bool (ltb i n))
+    (cases-bool (ltb i n))
 
 pub none-left : {X : Type 0} (i n : ℕ) (y : X) → None ≡ cond (ltb i n) (Some y) None → n ≤ i
 none-left i n y e =
     ⊎-elim (λ (t : ltb i n ≡ true). let f = rw t at e in let z : _≡_ {A = ℕ} 0 1 = cc in absurd (omega arith)) (λ (t : ltb i n ≡ false). ltb-false i n t)
-      (cases-bool (ltb i n))
+    (cases-bool (ltb i n))
 
 record-add : (bs : List ℕ) (i : ℕ) → take (24 * suc i) (drop 8 bs) ≡ take (24 * i) (drop 8 bs) ++ recordAt i bs
 record-add bs i =

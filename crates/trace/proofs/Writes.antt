@@ -101,6 +101,6 @@ pub reads-back : {I : Type 0} (t : Ghosts I) → Lawful t → (kind k : ℕ) (op
 reads-back t law kind k ops order out rest hk kk few eq small fits consistent e room l =
     let c = contents kind k ops order in
     let whole : take (8 + 26 * length ops) out ≡ encode t (contents kind k ops order) =
-      ap (take (8 + 26 * length ops)) e ∙ take-at (encode t (contents kind k ops order)) rest (8 + 26 * length ops) (length-encode t (contents kind k ops order) eq) in
+    ap (take (8 + 26 * length ops)) e ∙ take-at (encode t (contents kind k ops order)) rest (8 + 26 * length ops) (length-encode t (contents kind k ops order) eq) in
     reading-there t law room (take (8 + 26 * length ops) out) c
-      (record { kind = hk; k = kk; count = few; place = l; ordered = eq; small = small; fits = fits; consistent = consistent-again t law ops fits consistent }) whole
+    (record { kind = hk; k = kk; count = few; place = l; ordered = eq; small = small; fits = fits; consistent = consistent-again t law ops fits consistent }) whole

@@ -6,3 +6,4 @@ pub mod Contents
 pub mod Reading
 pub mod Answers
 pub mod Writing
+pub mod Copying

@@ -1,4 +1,5 @@
 // The trace: a header, a record for each operation, and the order.
+pub mod copy;
 pub mod fault;
 pub mod header;
 pub mod order;

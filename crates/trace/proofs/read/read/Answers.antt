@@ -25,4 +25,5 @@ returns g c =
       lender = e .lender;
       accepted-is-sound = sound-answer t law n bs bytes r old os (e .answer) (e .entered);
       accepted-is-encoded = encoded-answer t law n bs bytes r old os (e .answer) (e .entered);
-      encoded-sound-is-accepted = exact-answer t law n bs r old os (e .answer) (e .entered) }
+      encoded-sound-is-accepted = exact-answer t law n bs r old os (e .answer) (e .entered);
+    }

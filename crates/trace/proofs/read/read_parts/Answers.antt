@@ -23,16 +23,17 @@ returns-in-Break-take-all g c =
     let h = c .in-Continue-header .header in
     let e = c .in-Break-take-all .ensures tt in
     let all =
-      accepting (g .I·Item) (c .type-code .result) (room (c .args .sheet .now)) (room (c .clear .last .self)) (c .args .bytes .now) (now (c .new .result .bytes)) h _
-        (c .type-code .ensures) (c .in-Continue-header .ensures tt .answer) (c .clear .ensures .room) (c .new .ensures) (c .in-Continue-header .ensures tt .long) (e .run) in
+    accepting (g .I·Item) (c .type-code .result) (room (c .args .sheet .now)) (room (c .clear .last .self)) (c .args .bytes .now) (now (c .new .result .bytes)) h _
+    (c .type-code .ensures) (c .in-Continue-header .ensures tt .answer) (c .clear .ensures .room) (c .new .ensures) (c .in-Continue-header .ensures tt .long) (e .run) in
     let answer : shown (c .from-residual-in-Break-take-all .result) ≡ answered (refused (entered (c .take-all .last .sheet)) (c .in-Break-take-all .field-0 .0 .place) (c .in-Break-take-all .field-0 .0 .fault)) =
-      search needs in
+    search needs in
     record {
       answer = answer ∙ sym (ap answered all);
       entered = sym (ap (held (entered (c .args .sheet .now))) all);
       memory = e .memory ∙ ap (filled (entered (c .take-all .last .sheet))) (c .clear .ensures .memory);
       room = e .room ∙ c .clear .ensures .room;
-      lender = e .lender ∙ c .clear .ensures .lender }
+      lender = e .lender ∙ c .clear .ensures .lender;
+    }
 
 pub returns : need.returns
 returns g c =
@@ -40,12 +41,13 @@ returns g c =
     let e = c .in-Continue-take-all .ensures tt in
     let bs = c .args .bytes .now in
     let all =
-      accepting (g .I·Item) (c .type-code .result) (room (c .args .sheet .now)) (room (c .clear .last .self)) bs (now (c .new .result .bytes)) h _
-        (c .type-code .ensures) (c .in-Continue-header .ensures tt .answer) (c .clear .ensures .room) (c .new .ensures) (c .in-Continue-header .ensures tt .long) (e .run) in
+    accepting (g .I·Item) (c .type-code .result) (room (c .args .sheet .now)) (room (c .clear .last .self)) bs (now (c .new .result .bytes)) h _
+    (c .type-code .ensures) (c .in-Continue-header .ensures tt .answer) (c .clear .ensures .room) (c .new .ensures) (c .in-Continue-header .ensures tt .long) (e .run) in
     let order = ap (λ z. numbersOf (length z / 2) z) (c .new-order .ensures) ∙ order-after bs (h .count) (c .in-Continue-header .ensures tt .long) in
     record {
       answer = ap (λ o. Ok (record { kind = h .kind; k = h .k; order = o })) order ∙ sym (ap answered all);
       entered = sym (ap (held (entered (c .args .sheet .now))) all);
       memory = e .memory ∙ ap (filled (entered (c .take-all .last .sheet))) (c .clear .ensures .memory);
       room = e .room ∙ c .clear .ensures .room;
-      lender = e .lender ∙ c .clear .ensures .lender }
+      lender = e .lender ∙ c .clear .ensures .lender;
+    }

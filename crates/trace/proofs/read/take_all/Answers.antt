@@ -32,12 +32,13 @@ returns-in-Err g c =
     let e = c .in-Err .ensures tt in
     record {
       run =
-        turned-away (g .I·Item) (room (c .args .sheet .now)) bs i (recordCount bs) (room s) (entered s) fin (c .in-Some .rec .now) (c .in-Err .fault)
+          turned-away (g .I·Item) (room (c .args .sheet .now)) bs i (recordCount bs) (room s) (entered s) fin (c .in-Some .rec .now) (c .in-Err .fault)
           (c .loop-rec .inv .0) (c .loop-rec .inv .1) (h .1) (e .step i) (h .0);
       memory =
-        e .memory ∙ ap (filled fin) (c .loop-rec .inv .2) ∙ filled-twice (entered s) fin (memory (c .args .sheet .now)) (e .grows);
+          e .memory ∙ ap (filled fin) (c .loop-rec .inv .2) ∙ filled-twice (entered s) fin (memory (c .args .sheet .now)) (e .grows);
       room = e .room ∙ c .loop-rec .inv .1;
-      lender = e .lender ∙ c .loop-rec .inv .3 }
+      lender = e .lender ∙ c .loop-rec .inv .3;
+    }
 
 pub loop-rec-again : need.loop-rec-again
 loop-rec-again g c =
@@ -47,12 +48,12 @@ loop-rec-again g c =
     let fin = entered (c .take-record .last .sheet) in
     let h = handed-out i (recordCount bs) _ (recordAt i bs) (c .in-Some .ensures tt) in
     let l = h .0 in
-    let e = c .in-rest-take-record .ensures tt in
-    ( turn (g .I·Item) (room (c .args .sheet .now)) bs i (room s) (entered s) (c .in-Some .rec .now) _ (c .loop-rec .inv .0) (c .loop-rec .inv .1) (h .1) (e .step i)
-    , e .room ∙ c .loop-rec .inv .1
-    , e .memory ∙ ap (filled fin) (c .loop-rec .inv .2) ∙ filled-twice (entered s) fin (memory (c .args .sheet .now)) (e .grows)
-    , e .lender ∙ c .loop-rec .inv .3
-    , omega arith
+    let e = c .in-rest-take-record .ensures tt in (
+      turn (g .I·Item) (room (c .args .sheet .now)) bs i (room s) (entered s) (c .in-Some .rec .now) _ (c .loop-rec .inv .0) (c .loop-rec .inv .1) (h .1) (e .step i),
+      e .room ∙ c .loop-rec .inv .1,
+      e .memory ∙ ap (filled fin) (c .loop-rec .inv .2) ∙ filled-twice (entered s) fin (memory (c .args .sheet .now)) (e .grows),
+      e .lender ∙ c .loop-rec .inv .3,
+      omega arith,
     )
 
 pub loop-rec-less : need.loop-rec-less
@@ -72,4 +73,5 @@ returns g c =
       run = ap (run (g .I·Item) (room (c .args .sheet .now)) bs) e ∙ c .loop-rec .inv .0;
       memory = c .loop-rec .inv .2;
       room = c .loop-rec .inv .1;
-      lender = c .loop-rec .inv .3 }
+      lender = c .loop-rec .inv .3;
+    }

@@ -13,16 +13,18 @@ returns-in-Break-op g c = record { step = search needs; grows = omega arith; mem
 
 pub returns-in-Break-enter : need.returns-in-Break-enter
 returns-in-Break-enter g c = record {
-    step = search needs;
-    grows = let n = ap length (c .enter .ensures .entered) in let m = grows (isOk (c .enter .result)) (entered (c .args .sheet .now)) (c .in-Continue-op .op) in omega arith;
-    memory = c .enter .ensures .memory;
-    room = c .enter .ensures .room;
-    lender = c .enter .ensures .lender }
+  step = search needs;
+  grows = let n = ap length (c .enter .ensures .entered) in let m = grows (isOk (c .enter .result)) (entered (c .args .sheet .now)) (c .in-Continue-op .op) in omega arith;
+  memory = c .enter .ensures .memory;
+  room = c .enter .ensures .room;
+  lender = c .enter .ensures .lender;
+}
 
 pub returns : need.returns
 returns g c = record {
-    step = search needs;
-    grows = let n = ap length (c .enter .ensures .entered) in let m = grows (isOk (c .enter .result)) (entered (c .args .sheet .now)) (c .in-Continue-op .op) in omega arith;
-    memory = c .enter .ensures .memory;
-    room = c .enter .ensures .room;
-    lender = c .enter .ensures .lender }
+  step = search needs;
+  grows = let n = ap length (c .enter .ensures .entered) in let m = grows (isOk (c .enter .result)) (entered (c .args .sheet .now)) (c .in-Continue-op .op) in omega arith;
+  memory = c .enter .ensures .memory;
+  room = c .enter .ensures .room;
+  lender = c .enter .ensures .lender;
+}

@@ -22,10 +22,10 @@ loop-i-again c =
     let x = getD order i 0 in
     let room : c .args .at ≤ length (c .args .out .now) = omega arith in
     let t : take (i + 1) order ≡ take i order ++ x ∷ [] = take-more order i 0 (c .loop-i-test .taken) in
-    let small : x < 2 ^ 16 = search needs in
-    ( laid (big 2) 2 (length-big 2) (c .args .at) (c .args .out .now) order (c .loop-i .out) (c .paste .last .out) _ i x
-        room (c .loop-i-test .taken) (getD-default order i 0 x (c .loop-i-test .taken)) (c .to-be-bytes .ensures ∙ sym (big-two x)) (c .loop-i .inv .0) (c .paste .ensures)
-    , subst Small (sym t) (small-push (take i order) x (c .loop-i .inv .1) small)
+    let small : x < 2 ^ 16 = search needs in (
+      laid (big 2) 2 (length-big 2) (c .args .at) (c .args .out .now) order (c .loop-i .out) (c .paste .last .out) _ i x
+          room (c .loop-i-test .taken) (getD-default order i 0 x (c .loop-i-test .taken)) (c .to-be-bytes .ensures ∙ sym (big-two x)) (c .loop-i .inv .0) (c .paste .ensures),
+      subst Small (sym t) (small-push (take i order) x (c .loop-i .inv .1) small),
     )
 
 pub returns : need.returns
@@ -34,4 +34,5 @@ returns c =
     let e : c .loop-i .i ≡ length order = omega arith in
     record {
       bytes = laid-all (big 2) 2 (length-big 2) (c .args .at) (c .args .out .now) order (c .loop-i .out) (c .loop-i .i) e (c .loop-i .inv .0);
-      small = subst Small (take-all (c .loop-i .i) order (omega arith)) (c .loop-i .inv .1) }
+      small = subst Small (take-all (c .loop-i .i) order (omega arith)) (c .loop-i .inv .1);
+    }

@@ -24,9 +24,9 @@ returns g c =
     let mem = c .args .out .now in
     let n : length ops ≡ length (entered (c .args .sheet .now)) = ap length items in
     let bytes =
-      whole t (c .type-code .result) kind k ops order (c .header-bytes .result) mem (c .paste .last .out) (c .put-records .last .out) (c .put-order .last .out)
-        (c .type-code .ensures) (c .if-order-ops .left) (c .header-bytes .ensures) (c .paste .ensures) (c .put-records .ensures .bytes) (c .put-order .ensures .bytes)
-      ∙ ap (λ z. encode t (contents kind k z order) ++ drop (8 + 26 * length z) mem) items in
+    whole t (c .type-code .result) kind k ops order (c .header-bytes .result) mem (c .paste .last .out) (c .put-records .last .out) (c .put-order .last .out)
+    (c .type-code .ensures) (c .if-order-ops .left) (c .header-bytes .ensures) (c .paste .ensures) (c .put-records .ensures .bytes) (c .put-order .ensures .bytes)
+    ∙ ap (λ z. encode t (contents kind k z order) ++ drop (8 + 26 * length z) mem) items in
     let fits = subst (AllFit t) items (c .put-records .ensures .fit) in
     let few : length (entered (c .args .sheet .now)) ≤ 1024 = omega (arith, c .all-ops .ensures .few) in
     let consistent = ∥∥₁-map (c .all-ops .ensures .consistent) (subst (Consistent []) items) in
@@ -34,5 +34,6 @@ returns g c =
       answer = answering kind (length (entered (c .args .sheet .now))) (length order) (length mem) (c .if-kind-gt2 .left) (c .if-order-ops .left ∙ n) (omega arith);
       bytes = bytes;
       reads-as-what-went-in =
-        reads-back t law kind k (entered (c .args .sheet .now)) order (c .put-order .last .out) (drop (8 + 26 * length (entered (c .args .sheet .now))) mem)
-          (c .if-kind-gt2 .left) (omega arith) few (c .if-order-ops .left ∙ n) (c .put-order .ensures .small) fits consistent bytes }
+          reads-back t law kind k (entered (c .args .sheet .now)) order (c .put-order .last .out) (drop (8 + 26 * length (entered (c .args .sheet .now))) mem)
+          (c .if-kind-gt2 .left) (omega arith) few (c .if-order-ops .left ∙ n) (c .put-order .ensures .small) fits consistent bytes;
+    }

@@ -22,7 +22,7 @@ loop-i-again c =
     let l = length-numbers (length (c .args .self .now .bytes .now) / 2) (c .args .self .now .bytes .now) in
     let h : c .loop-i .i < length (orderOf (c .args .self .now)) = omega arith in
     let x : c .number-at .result ≡ getD (orderOf (c .args .self .now)) (c .loop-i .i) 0 =
-      c .number-at .ensures .narrow (omega arith) .0 ∙ sym (number-at-place (length bs / 2) i bs (omega arith)) in
+    c .number-at .ensures .narrow (omega arith) .0 ∙ sym (number-at-place (length bs / 2) i bs (omega arith)) in
     c .in-Continue-push .ensures tt .items ∙ ap (λ z. z ++ c .number-at .result ∷ []) (c .loop-i .inv) ∙ ap (λ n. take i all ++ n ∷ []) x
     ∙ sym (take-more all i 0 h)
 
