@@ -6,6 +6,7 @@ use Rattle.std.specs.declared.result.Result.{Result}
 use Rattle.std.specs.declared.result.Result.the-variants.{Ok, Err}
 use Rattle.item.specs.declared.fault.ItemFault.{ItemFault}
 use Rattle.item.specs.declared.fault.ItemFault.the-variants.{OutsideType}
+use Rattle.item.specs.declared.item.Item.{Ghosts}
 use Rattle.item.specs.declared.stamp.Stamp.{Stamp}
 use Rattle.item.specs.declared.stamp.Stamp.the-variants.{Serial, InLane}
 use Rattle.item.specs.Lanes.{laneNumber, laneOf}
@@ -26,3 +27,7 @@ stampOf case lane rest =
 -- the stamp that has the number
 abbrev pub stampNamed : ℕ → Result Stamp ItemFault
 stampNamed n = stampOf (n / 2 ^ 38) (n / 2 ^ 32 % 64) (n % 2 ^ 32)
+
+-- what stamps mean as items
+abbrev pub stampItems : Ghosts Stamp
+stampItems = record { code = 1; number = stampNumber; fit = stampFit; named = stampNamed }

@@ -10,18 +10,20 @@ use Rattle.std.proofs.shelf.Ways.{tells}
 use Rattle.std.specs.declared.result.Result.{Result}
 use Rattle.std.specs.declared.result.Result.the-variants.{Ok, Err}
 use Rattle.item.specs.declared.item.Item.{Ghosts}
+use Rattle.item.specs.Items.{Lawful}
+use Rattle.record.specs.Bytes.{Bytes}
 use Rattle.sheet.specs.declared.operation.Operation.{Operation}
 use Rattle.trace.specs.declared.fault.ReadFault.{ReadFault}
 use Rattle.trace.specs.declared.fault.WriteFault.{WriteFault}
 use Rattle.trace.specs.declared.fault.WriteFault.the-variants.{Kind, OrderLength, Memory}
 use Rattle.trace.specs.declared.fault.CopyFault.the-variants.{Reading, Writing}
 use Rattle.trace.specs.Contents.{Contents, contents, encode, Sound}
-use Rattle.trace.specs.Reading.{Outcome}
+use Rattle.trace.specs.Reading.{Outcome, reading}
 use Rattle.trace.specs.Reading.Outcome.{unread, refused, accepted}
 use Rattle.trace.specs.Answers.{answered, sayingOf}
 use Rattle.trace.specs.Writing.{writing}
 use Rattle.trace.specs.Copying.{copying}
-use Rattle.trace.proofs.Readings.{length-encode}
+use Rattle.trace.proofs.Readings.{length-encode, reading-back}
 
 pub not-read : {I : Type 0} (bytes : ℕ) (o : Outcome I) (e : ReadFault) → Err e ≡ answered o → Err (Reading e) ≡ copying bytes o
 not-read bytes (unread f) e p = let q : e ≡ _ = cc in ap (λ z. Err (Reading z)) q
@@ -63,3 +65,19 @@ own-bytes t kind k ops order written bs mem out w e l o =
           ∙ ap (λ m. bs ++ drop m mem) n,
       n,
     )
+
+module _ {I : Type 0} (t : Ghosts I) (law : Lawful t) (room : ℕ) (bs : List ℕ) (b : Bytes bs) where
+  long-enough : (c : Contents I) → reading t room bs ≡ accepted c → ltb (length bs) (8 + 26 * length (c .ops)) ≡ false
+  long-enough c e =
+      let r = reading-back t law room bs c b e in
+      let l = ap length (r .bytes) ∙ length-encode t c (r .sound .ordered) in
+      grind (arith, tells)
+
+  -- memory as long as the trace is enough to write it back
+  pub always-written : (o : Outcome I) → reading t room bs ≡ o → (f : WriteFault) → Err (Writing f) ≡ copying (length bs) o → ⊥
+  always-written (unread e) p f q = let z : _≡_ {A = ℕ} 0 1 = cc in omega arith
+  always-written (refused os i e) p f q = let z : _≡_ {A = ℕ} 0 1 = cc in omega arith
+  always-written (accepted c) p f q =
+      let w = q ∙ ap (λ x. cond x (Err (Writing Memory)) (Ok (sayingOf c))) (long-enough c p) in
+      let z : _≡_ {A = ℕ} 0 1 = cc in
+      omega arith

@@ -4,4 +4,4 @@ mod Entries
 mod Runs
 mod Readings
 mod Writes
-mod Copies
+pub mod Copies

@@ -1,5 +1,7 @@
 -- What each fault of the frame layer says, and what the faults below say through it.
 use Prim.Native.Nat.{ℕ}
+use Rattle.std.specs.declared.option.Option.{Option}
+use Rattle.std.specs.declared.option.Option.the-variants.{Some, None}
 use Rattle.refusal.specs.declared.Layer.the-variants as layer
 use Rattle.refusal.specs.declared.Refusal.{Refusal}
 use Rattle.sheet.specs.Faults.{sheetRefusal}
@@ -12,6 +14,8 @@ use Rattle.trace.specs.declared.fault.ReadFault.{ReadFault}
 use Rattle.trace.specs.declared.fault.ReadFault.the-variants.{Frame, Entry}
 use Rattle.trace.specs.declared.fault.WriteFault.{WriteFault}
 use Rattle.trace.specs.declared.fault.WriteFault.the-variants as writing
+use Rattle.trace.specs.declared.fault.CopyFault.{CopyFault}
+use Rattle.trace.specs.declared.fault.CopyFault.the-variants.{Reading, Writing, NoMemory}
 
 -- a refusal of the frame has no place and no detail
 abbrev pub ofFrame : ℕ → Refusal
@@ -38,3 +42,9 @@ abbrev pub writeRefusal : WriteFault → Refusal
 writeRefusal writing.Kind = ofFrame 3
 writeRefusal writing.OrderLength = ofFrame 52
 writeRefusal writing.Memory = ofFrame 51
+
+-- of a copy: none where memory was wanting
+abbrev pub copyRefusal : CopyFault → Option Refusal
+copyRefusal (Reading fault) = Some (readRefusal fault)
+copyRefusal (Writing fault) = Some (writeRefusal fault)
+copyRefusal NoMemory = None

@@ -2,7 +2,7 @@ ghost use mathlib.Core.Path.{_≡_};
 ghost use Rattle.trace.specs.declared.fault.EntryFault.the-variants.{Record, Sheet};
 ghost use Rattle.trace.specs.declared.fault.ReadFault.the-variants.{Frame, Entry};
 ghost use Rattle.trace.specs.declared.fault.CopyFault.the-variants.{Reading, Writing, NoMemory};
-ghost use Rattle.trace.specs.Faults.{frameRefusal, entryRefusal, readRefusal, writeRefusal};
+ghost use Rattle.trace.specs.Faults.{frameRefusal, entryRefusal, readRefusal, writeRefusal, copyRefusal};
 use record::fault::RecordFault;
 use record::fault::RecordFaultDebug;
 use record::fault::RecordFaultPartialEq;
@@ -131,6 +131,19 @@ impl WriteFault {
             number,
             place: 0,
             detail: 0,
+        }
+    }
+}
+
+impl CopyFault {
+    // The refusal, or none where memory was wanting.
+    pub fn refusal(&self) -> Option<Refusal>
+        ensures { λ r. ⌜ r ≡ copyRefusal (now (self .entry)) ⌝ }
+    {
+        match self {
+            CopyFault::Reading(fault) => Some(fault.refusal()),
+            CopyFault::Writing(fault) => Some(fault.refusal()),
+            CopyFault::NoMemory => None,
         }
     }
 }
