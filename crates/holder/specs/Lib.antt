@@ -2,3 +2,5 @@ pub mod Faults
 pub mod Answers
 pub mod Rows
 pub mod Kinds
+pub mod Calls
+pub mod Laws
