@@ -11,7 +11,7 @@ use lib.Seq.{take-set-lt}
 use Rattle.std.specs.shelf.Lists.{countBy}
 use Rattle.std.proofs.shelf.Lists.{take-set-le, length-take, length-take-le, getD-take, take-take, getD-replicate}
 use Rattle.std.proofs.shelf.Sums.{countBy-le-length, sumBy-set, sumBy-take-le, sumBy-more}
-use Rattle.std.proofs.shelf.Tests.{cases-lt, le-leb, lt-leb, ne-eqb}
+use Rattle.std.proofs.shelf.Tests.{cases-lt, le-leb, lt-leb}
 use Rattle.counting.proofs.Lows.{block-half, block-past}
 use Rattle.counting.specs.Blocks.{block, used, worth, upto, from, BlockSums, Changed}
 
@@ -37,9 +37,6 @@ from-on q w n h = let e = le-leb q n h in rw e
 pub from-off : (q w n : ℕ) → n < q → from q w n ≡ 0
 from-off q w n h = let e = lt-leb q n h in rw e
 
-worth-some : (x : ℕ) → 0 < x → worth x ≡ 1
-worth-some x h = let e = ne-eqb x 0 (λ z. omega arith) in rw e
-
 pub worth-le : (x : ℕ) → worth x ≤ 1
 worth-le x = elim (used x) as (λ v. cond {A = ℕ} v 1 0 ≤ 1) [ true ↦ omega arith | false ↦ omega arith ]
 
@@ -62,13 +59,6 @@ upto-set s i v n w =
     (λ (h : i < n). omega (arith, moved-above s i v n w h, from-on (i + 1) (worth v) n (omega arith), from-on (i + 1) (worth (getD s i 0)) n (omega arith)))
     (λ (h : n ≤ i). omega (arith, same-below s i v n h, from-off (i + 1) (worth v) n (omega arith), from-off (i + 1) (worth (getD s i 0)) n (omega arith)))
     (cases-lt i n)
-
--- one more is used where a free slot is filled, and one less where a used one is freed
-pub upto-filled : (s : List ℕ) (i v n : ℕ) → n ≤ length s → i < n → getD s i 0 ≡ 0 → 0 < v → upto (set s i v) n ≡ upto s n + 1
-upto-filled s i v n w h free some = omega (arith, moved-above s i v n w h, ap worth free, worth-some v some)
-
-pub upto-freed : (s : List ℕ) (i n : ℕ) → n ≤ length s → i < n → 0 < getD s i 0 → upto (set s i 0) n + 1 ≡ upto s n
-upto-freed s i n w h held = omega (arith, moved-above s i 0 n w h, worth-some (getD s i 0) held)
 
 -- ---- the sums
 pub sum-le : (sums s : List ℕ) → BlockSums sums s → (p : ℕ) → 0 < p → p ≤ 1024 → getD sums p 0 ≤ 1024

@@ -44,14 +44,15 @@ impl Arrivals {
         requires { ⌜ i < 1024 ⌝ }
         ensures { λ _. ⌜ now (self .exit) .slots ≡ set (now (self .entry) .slots) i slot ⌝ }
     {
-        let less = counted(self.slots[i as usize]);
+        let at = i as usize;
+        let less = counted(self.slots[at]);
         let more = counted(slot);
         change(&mut self.sums, i + 1, less, more);
-        self.slots[i as usize] = slot;
+        self.slots[at] = slot;
     }
 
     // How many of the first n slots are used: from block to block, down to the first.
-    pub(crate) fn before(&self, n: u16) -> u16
+    pub(crate) fn used_before(&self, n: u16) -> u16
         requires { ⌜ n ≤ 1024 ⌝ }
         ensures { λ r. ⌜ r ≡ upto (now (self .entry) .slots) n ⌝ }
     {

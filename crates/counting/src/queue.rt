@@ -4,7 +4,6 @@ ghost use mathlib.Core.List.{[]};
 ghost use Prim.Native.Nat.{_≤_};
 ghost use lib.ListN.{length, getD};
 ghost use Rattle.holder.specs.Kinds.{queueSeat};
-ghost use Rattle.counting.specs.Blocks.{upto};
 ghost use Rattle.counting.specs.Slots.{codes, FreeFrom, Placed, Back};
 use crate::arrivals::Arrivals;
 use holder::fault::HolderFault;
@@ -16,11 +15,9 @@ use holder::holder::Holder;
 pub struct CountingQueue {
     arrivals: Arrivals,
     positions: [u16; 1024],
-    len: u16,
     added: u16,
     ghost long: { length positions ≡ 1024 },
     ghost few: { added ≤ 1024 },
-    ghost counted: { len ≡ upto (arrivals .slots) 1024 },
     ghost free: { FreeFrom added (arrivals .slots) },
     ghost placed: { Placed (arrivals .slots) positions },
     ghost back: { Back (arrivals .slots) positions },
@@ -34,7 +31,6 @@ impl CountingQueue {
         CountingQueue {
             arrivals: Arrivals::new(),
             positions: [0; 1024],
-            len: 0,
             added: 0,
         }
     }
@@ -59,7 +55,7 @@ pub impl Holder for CountingQueue as CountingQueueHolder {
     ghost seat = { queueSeat };
 
     fn count(&self) -> u16 {
-        self.len
+        self.arrivals.used_before(ADD_BOUND)
     }
 
     fn rank(&self, code: u16) -> Result<u16, HolderFault> {
@@ -67,11 +63,11 @@ pub impl Holder for CountingQueue as CountingQueueHolder {
         if position == 0 {
             return Err(HolderFault::NotHeld);
         }
-        Ok(self.arrivals.before(position - 1))
+        Ok(self.arrivals.used_before(position - 1))
     }
 
     fn at(&self, place: u16) -> Result<u16, HolderFault> {
-        if place >= self.len {
+        if place >= self.count() {
             return Err(HolderFault::NoSuchPlace);
         }
         let i = self.arrivals.select(place);
@@ -95,7 +91,6 @@ pub impl Holder for CountingQueue as CountingQueueHolder {
         self.arrivals.put(self.added, code + 1);
         self.added += 1;
         self.positions[code as usize] = self.added;
-        self.len += 1;
         Ok(())
     }
 
@@ -106,7 +101,6 @@ pub impl Holder for CountingQueue as CountingQueueHolder {
         }
         self.arrivals.put(position - 1, 0);
         self.positions[code as usize] = 0;
-        self.len -= 1;
         Ok(())
     }
 }

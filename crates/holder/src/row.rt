@@ -4,7 +4,8 @@ ghost use Prim.Native.Nat.{_≤_};
 ghost use lib.ListN.{length, take};
 ghost use Rattle.giving.specs.Lists.{Once, Below};
 
-mod list;
+mod reading;
+mod writing;
 
 #[derive(Drop)]
 pub struct Row {

@@ -1,13 +1,10 @@
 use mathlib.Core.Path.{_≡_, refl, sym, ap, _∙_}
-use mathlib.Core.List.{List}
 use Prim.Native.Nat.{ℕ, _+_}
 use native.Mathlib.Omega.{arith}
 use borrow.Author.Needs.{needs}
 use lib.ListN.{length-set, set, getD}
 use Rattle.giving.proofs.Places.{inserted-end}
-use Rattle.counting.specs.Blocks.{upto}
 use Rattle.counting.specs.Slots.{codes}
-use Rattle.counting.proofs.Sums.{upto-filled, upto-le}
 use Rattle.counting.proofs.Codes.{codes-pushed}
 use Rattle.counting.proofs.Kept.{kept-add}
 use Rattle.counting.proofs.Held.{held-at, not-held}
@@ -23,9 +20,6 @@ returns-then-self-ge-ADD-BOUND c =
     let a = not-held (c .args .self .now) (c .args .code) (omega arith) in
     record { answer = search needs; list = refl; count = refl }
 
-pub add-self-2 : need.add-self-2
-add-self-2 c = let u = upto-le (c .args .self .now .arrivals .slots) 1024 in omega arith
-
 pub ghost-self : need.ghost-self
 ghost-self c =
     let q = c .args .self .now in
@@ -34,10 +28,8 @@ ghost-self c =
     let k = c .args .code in
     let e : c .put .last .self .slots ≡ set s n (k + 1) = c .put .ensures in
     let z : getD (q .positions) k 0 ≡ 0 = omega arith in
-    let m = upto-filled s n (k + 1) 1024 (omega arith) (omega arith) (q .free n (omega arith)) (omega arith) in
-    let g = ap (λ (l : List ℕ). upto l 1024) e in
     let kept = kept-add s (q .positions) n k (omega arith) (omega arith) (omega arith) (q .free) (q .placed) (q .back) z (c .put .last .self .slots) e in
-    (simp length-set (q .long), (omega arith, (omega arith, (kept .0, (kept .1, (kept .2, tt))))))
+    (simp length-set (q .long), (omega arith, (kept .0, (kept .1, (kept .2, tt)))))
 
 pub returns : need.returns
 returns c =

@@ -1,13 +1,10 @@
 use mathlib.Core.Path.{_≡_, refl, sym, ap, _∙_}
-use mathlib.Core.List.{List}
 use Prim.Native.Nat.{ℕ, _+_, _-_, _<_}
 use native.Mathlib.Omega.{arith}
 use borrow.Author.Needs.{needs}
 use lib.ListN.{length-set, set, getD}
 use Rattle.giving.proofs.Places.{without-absent}
-use Rattle.counting.specs.Blocks.{upto}
 use Rattle.counting.specs.Slots.{codes}
-use Rattle.counting.proofs.Sums.{upto-freed}
 use Rattle.counting.proofs.Codes.{codes-absent, codes-without, within}
 use Rattle.counting.proofs.Kept.{kept-take}
 use Rattle.counting.proofs.Held.{held-at, not-held}
@@ -20,12 +17,6 @@ returns-then-position-eq0 c =
     let a = not-held q (c .args .code) (omega arith) in
     record { answer = search needs; list = sym (without-absent (c .args .code) (codes s) (codes-absent s (q .positions) (c .args .code) (q .placed) (omega arith))); count = refl }
 
-pub sub-self : need.sub-self
-sub-self c =
-    let q = c .args .self .now in
-    let h = held-at q (c .args .code) (c .position-position .result) (c .position-position .ensures) (omega arith) in
-    omega (arith, upto-freed (q .arrivals .slots) (c .position-position .result - 1) 1024 (omega arith) (omega arith) (omega arith))
-
 pub ghost-self : need.ghost-self
 ghost-self c =
     let q = c .args .self .now in
@@ -37,10 +28,8 @@ ghost-self c =
     let p : getD (q .positions) k 0 ≡ i + 1 = omega arith in
     let l = within s i (omega arith) in
     let w = within (q .positions) k (omega arith) in
-    let m = upto-freed s i 1024 (omega arith) (omega arith) (omega arith) in
-    let u = ap (λ (l : List ℕ). upto l 1024) e in
     let kept = kept-take s (q .positions) (q .added) k i l w (q .free) (q .placed) (q .back) p (h .slot) (c .put .last .self .slots) e in
-    (simp length-set (q .long), (q .few, (omega arith, (kept .0, (kept .1, (kept .2, tt))))))
+    (simp length-set (q .long), (q .few, (kept .0, (kept .1, (kept .2, tt)))))
 
 pub returns : need.returns
 returns c =

@@ -3,17 +3,16 @@ ghost use mathlib.Core.Path.{_≡_};
 ghost use mathlib.Core.List.{[], _++_, _∷_};
 ghost use mathlib.Core.Bool.{cond};
 ghost use Prim.Native.Nat.{_+_, _<_};
-ghost use lib.ListN.{getD, length};
+ghost use lib.ListN.{length};
 ghost use Rattle.std.specs.Results.{isOk};
 ghost use Rattle.std.specs.shelf.Lists.{removed};
-ghost use Rattle.giving.specs.Lists.{place, times, without};
+ghost use Rattle.giving.specs.Lists.{times, without};
 ghost use Rattle.holder.specs.Answers.{addAnswer, takeAnswer};
 ghost use Rattle.holder.specs.Rows.{rowList};
 use crate::fault::HolderFault;
 use crate::holder::ADD_BOUND;
 use crate::holder::CODE_BOUND;
 use crate::row::Row;
-use giving::place_of;
 
 impl Row {
     pub(crate) fn new() -> Row
@@ -33,26 +32,6 @@ impl Row {
     {
         self.len = 0;
         self.added = 0;
-    }
-
-    pub(crate) fn len(&self) -> u16
-        ensures { λ r. ⌜ r ≡ length (rowList (now (self .entry))) ⌝ }
-    {
-        self.len
-    }
-
-    // The place of a code in the row, or the row's length.
-    pub(crate) fn find(&self, code: u16) -> u16
-        ensures { λ r. ⌜ r ≡ place code (rowList (now (self .entry))) ⌝ }
-    {
-        place_of(code, &self.codes[0..self.len as usize]) as u16
-    }
-
-    pub(crate) fn get(&self, i: u16) -> u16
-        requires { ⌜ i < length (rowList (now self)) ⌝ }
-        ensures { λ r. ⌜ r ≡ getD (rowList (now (self .entry))) i 0 ⌝ }
-    {
-        self.codes[i as usize]
     }
 
     // Puts a code that is not in the row at its end.

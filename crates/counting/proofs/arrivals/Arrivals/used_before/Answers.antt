@@ -2,7 +2,7 @@ use mathlib.Core.Path.{_≡_, ap}
 use native.Mathlib.Omega.{arith}
 use Rattle.counting.specs.Blocks.{upto}
 use Rattle.counting.proofs.Sums.{upto-le, upto-none}
-use Rattle.counting.proofs.arrivals.Arrivals.before.Needs as need
+use Rattle.counting.proofs.arrivals.Arrivals.used_before.Needs as need
 
 pub add-sum : need.add-sum
 add-sum c =
