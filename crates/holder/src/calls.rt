@@ -55,6 +55,7 @@ fn number(result: Result<u16, HolderFault>) -> HolderAnswer
     }
 }
 
+// Whether two answers are the same.
 fn same_answer(one: HolderAnswer, other: HolderAnswer) -> bool
     ensures same { λ r. ⌜ (r ≡ true → one ≡ other) ⌝ }
     ensures told { λ r. ⌜ (one ≡ other → r ≡ true) ⌝ }
