@@ -2,15 +2,15 @@
 ghost use mathlib.Core.Path.{_≡_};
 ghost use mathlib.Core.List.{[]};
 ghost use mathlib.Core.Bool.{true};
-ghost use Rattle.holder.specs.Calls.{meaning, answered, afterAll};
+ghost use Rattle.turns.specs.Calls.{meaning, answered, afterAll};
 ghost use Rattle.holder.specs.Kinds.{queueList, queueSeat};
 ghost use Rattle.counting.specs.Slots.{codes};
 use crate::queue::CountingQueue;
 use crate::queue::CountingQueueHolder;
-use holder::calls::HolderTurn;
-use holder::calls::answer_alike;
 use holder::queue::Queue;
 use holder::queue::QueueHolder;
+use turns::calls::HolderTurn;
+use turns::calls::answer_alike;
 
 // Gives both the same calls, each cleared first, writes down the answers of the queue, and says whether the other
 // answers alike throughout: it always does.

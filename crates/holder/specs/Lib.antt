@@ -2,5 +2,3 @@ pub mod Faults
 pub mod Answers
 pub mod Rows
 pub mod Kinds
-pub mod Calls
-pub mod Laws

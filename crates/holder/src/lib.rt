@@ -1,5 +1,4 @@
 // Strict objects: one interface, its meaning, and the queue and the stack behind it.
-pub mod calls;
 pub mod fault;
 pub mod holder;
 pub mod queue;

@@ -1,9 +1,9 @@
 // A plain list of codes that answers calls by looking through it, and a fixed list of calls for it.
-use holder::calls::HolderAnswer;
-use holder::calls::HolderCall;
-use holder::calls::HolderTurn;
 use holder::fault::HolderFault;
 use std::test::*;
+use turns::calls::HolderAnswer;
+use turns::calls::HolderCall;
+use turns::calls::HolderTurn;
 
 // Where a new code goes.
 #[derive(Clone, Copy)]

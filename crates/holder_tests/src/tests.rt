@@ -3,9 +3,6 @@ use crate::plain::turns_of;
 use counting::alike::answers_as_queue;
 use counting::queue::CountingQueue;
 use counting::queue::CountingQueueHolder;
-use holder::calls::HolderAnswer;
-use holder::calls::HolderTurn;
-use holder::calls::answers_agree;
 use holder::fault::HolderFault;
 use holder::queue::Queue;
 use holder::queue::QueueHolder;
@@ -15,6 +12,9 @@ use refusal::Layer;
 use refusal::LayerDebug;
 use refusal::LayerPartialEq;
 use std::test::*;
+use turns::calls::HolderAnswer;
+use turns::calls::HolderTurn;
+use turns::calls::answers_agree;
 
 #[test]
 fn queue_is_its_plain_list(rt: LibcRuntime) -> Result<(), Fail> {

@@ -2,12 +2,12 @@
 ghost use mathlib.Core.Path.{_≡_};
 ghost use mathlib.Core.List.{[]};
 ghost use mathlib.Core.Bool.{true};
-ghost use Rattle.holder.specs.Calls.{meaning, answerTo, after, answered, afterAll, Answered, doneAnswer, numberAnswer};
-ghost use Rattle.holder.specs.Laws.{SameSeat, SameSeatsAnswerAlike};
-use crate::fault::HolderFault;
-use crate::fault::HolderFaultDebug;
-use crate::fault::HolderFaultPartialEq;
-use crate::holder::Holder;
+ghost use Rattle.turns.specs.Calls.{meaning, answerTo, after, answered, afterAll, Answered, doneAnswer, numberAnswer};
+ghost use Rattle.turns.specs.Laws.{SameSeat, SameSeatsAnswerAlike};
+use holder::fault::HolderFault;
+use holder::fault::HolderFaultDebug;
+use holder::fault::HolderFaultPartialEq;
+use holder::holder::Holder;
 
 // A call of a holder.
 #[derive(Clone, Copy, PartialEq, Eq, Debug)]

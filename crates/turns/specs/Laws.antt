@@ -2,8 +2,8 @@
 use mathlib.Core.Path.{_≡_}
 use mathlib.Core.List.{List}
 use Prim.Native.Nat.{ℕ}
-use Rattle.holder.specs.declared.calls.HolderTurn.{HolderTurn}
-use Rattle.holder.specs.Calls.{Meaning, answered, afterAll}
+use Rattle.turns.specs.declared.calls.HolderTurn.{HolderTurn}
+use Rattle.turns.specs.Calls.{Meaning, answered, afterAll}
 
 -- two rules give every new code the same seat
 abbrev pub SameSeat : (List ℕ → ℕ → ℕ) → (List ℕ → ℕ → ℕ) → Type 0

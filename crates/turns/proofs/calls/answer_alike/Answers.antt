@@ -1,8 +1,8 @@
 use mathlib.Core.Path.{_≡_, sym, ap, subst, _∙_}
 use mathlib.Core.List.{[]}
-use Rattle.holder.specs.Calls.{meaning, answered, afterAll, Answered}
-use Rattle.holder.proofs.Turns.{alike, written, rewritten, answered-twice, left-twice}
-use Rattle.holder.proofs.calls.answer_alike.Needs as need
+use Rattle.turns.specs.Calls.{meaning, answered, afterAll, Answered}
+use Rattle.turns.proofs.Turns.{alike, written, rewritten, answered-twice, left-twice}
+use Rattle.turns.proofs.calls.answer_alike.Needs as need
 
 pub returns : need.returns
 returns g c =

@@ -9,13 +9,13 @@ use Rattle.std.specs.shelf.Lists.{inserted}
 use Rattle.std.specs.declared.result.Result.{Result}
 use Rattle.std.specs.declared.result.Result.the-variants.{Ok, Err}
 use Rattle.giving.specs.Lists.{without}
-use Rattle.holder.specs.declared.calls.HolderAnswer.{HolderAnswer}
-use Rattle.holder.specs.declared.calls.HolderAnswer.the-variants.{Done, Number, Refused}
-use Rattle.holder.specs.declared.calls.HolderCall.{HolderCall}
-use Rattle.holder.specs.declared.calls.HolderCall.the-variants.{Clear, Count, Rank, At, Add, Take}
-use Rattle.holder.specs.declared.calls.HolderTurn.{HolderTurn}
+use Rattle.turns.specs.declared.calls.HolderAnswer.{HolderAnswer}
+use Rattle.turns.specs.declared.calls.HolderAnswer.the-variants.{Done, Number, Refused}
+use Rattle.turns.specs.declared.calls.HolderCall.{HolderCall}
+use Rattle.turns.specs.declared.calls.HolderCall.the-variants.{Clear, Count, Rank, At, Add, Take}
+use Rattle.turns.specs.declared.calls.HolderTurn.{HolderTurn}
 use Rattle.holder.specs.declared.fault.HolderFault.{HolderFault}
 use Rattle.holder.specs.Answers.{addAnswer, rankAnswer, atAnswer, takeAnswer}
 
 -- what a holder stands for: its giving list and its count of adds
 pub record Meaning : Type 0 where

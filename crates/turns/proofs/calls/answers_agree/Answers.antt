@@ -1,8 +1,8 @@
 use mathlib.Core.Path.{sym, _∙_}
 use Rattle.std.proofs.shelf.Tests.{false≢true}
-use Rattle.holder.proofs.Turns.{agreeing-start, agreeing-more, agreeing-end, cleared}
-use Rattle.holder.proofs.calls.answers_agree.Needs as need
-use Rattle.holder.proofs.calls.answers_agree.Needs.{then-not-same-answer, else-not-same-answer}
+use Rattle.turns.proofs.Turns.{agreeing-start, agreeing-more, agreeing-end, cleared}
+use Rattle.turns.proofs.calls.answers_agree.Needs as need
+use Rattle.turns.proofs.calls.answers_agree.Needs.{then-not-same-answer, else-not-same-answer}
 
 pub loop-i-holds : need.loop-i-holds
 loop-i-holds g c = agreeing-start (g .H·Holder .seat) _ (c .args .turns .now) (cleared _ _ (c .clear .ensures .list) (c .clear .ensures .count))

@@ -1,6 +1,6 @@
 use native.Mathlib.Omega.{arith}
-use Rattle.holder.proofs.Turns.{going-start, going-more, going-end, cleared}
-use Rattle.holder.proofs.calls.answer_all.Needs as need
+use Rattle.turns.proofs.Turns.{going-start, going-more, going-end, cleared}
+use Rattle.turns.proofs.calls.answer_all.Needs as need
 
 pub loop-i-holds : need.loop-i-holds
 loop-i-holds g c = going-start (g .H·Holder .seat) _ (c .args .turns .now) (cleared _ _ (c .clear .ensures .list) (c .clear .ensures .count))

@@ -6,13 +6,13 @@ use Prim.Native.Nat.{ℕ, suc, _+_, _<_, _≤_}
 use native.Mathlib.Omega.{arith}
 use lib.ListN.{length, getD, set, take, drop}
 use Rattle.std.proofs.shelf.Lists.{drop-more, take-more-set, drop-set-lt, append-assoc, append-nil, take-all, drop-all}
-use Rattle.holder.specs.declared.calls.HolderAnswer.{HolderAnswer}
-use Rattle.holder.specs.declared.calls.HolderAnswer.the-variants.{Done}
-use Rattle.holder.specs.declared.calls.HolderCall.the-variants.{Clear, Count, Rank, At, Add, Take}
-use Rattle.holder.specs.declared.calls.HolderCall.{HolderCall}
-use Rattle.holder.specs.declared.calls.HolderTurn.{HolderTurn}
-use Rattle.holder.specs.Calls.{Meaning, meaning, answerTo, after, afterAll, answered, Answered}
-use Rattle.holder.specs.Laws.{SameSeat, SameSeatsAnswerAlike}
+use Rattle.turns.specs.declared.calls.HolderAnswer.{HolderAnswer}
+use Rattle.turns.specs.declared.calls.HolderAnswer.the-variants.{Done}
+use Rattle.turns.specs.declared.calls.HolderCall.the-variants.{Clear, Count, Rank, At, Add, Take}
+use Rattle.turns.specs.declared.calls.HolderCall.{HolderCall}
+use Rattle.turns.specs.declared.calls.HolderTurn.{HolderTurn}
+use Rattle.turns.specs.Calls.{Meaning, meaning, answerTo, after, afterAll, answered, Answered}
+use Rattle.turns.specs.Laws.{SameSeat, SameSeatsAnswerAlike}
 
 -- what stands past the end of a list of turns
 abbrev pub noTurn : HolderTurn
