@@ -3,13 +3,13 @@ use mathlib.Core.Path.{_≡_, refl, sym, ap, _∙_}
 use mathlib.Core.Bool.{cond}
 use mathlib.Core.List.{List, [], _∷_, _++_, reverse}
 use mathlib.Core.Logic.{⊎-elim}
-use Prim.Native.Nat.{ℕ, zero, suc, _+_, _<_, _≤_}
+use Prim.Native.Nat.{ℕ, zero, suc, _+_, _-_, _<_, _≤_}
 use native.Mathlib.Omega.{arith}
 use lib.Dec.{eqb}
 use lib.ListN.{length, getD, take, drop, take-append-drop}
 use Rattle.std.specs.shelf.Lists.{All, inserted, removed}
 use Rattle.std.proofs.shelf.Lists.{reverse-append}
-use Rattle.std.proofs.shelf.Tests.{cond-both, cond-true, eqb-true, eq-eqb, cases-lt}
+use Rattle.std.proofs.shelf.Tests.{cond-both, cond-true, cond-false, eqb-true, eqb-false, eq-eqb, ne-eqb, cases-lt, cases-bool}
 use Rattle.giving.specs.Lists.{times, place, without, Once, Below}
 
 pub times-append : (a : ℕ) (xs ys : List ℕ) → times a (xs ++ ys) ≡ times a xs + times a ys
@@ -22,9 +22,21 @@ times-insert a x i L = omega (arith, times-append a (take i L) (x ∷ drop i L),
 pub times-take : (a i : ℕ) (L : List ℕ) → times a (take i L) ≤ times a L
 times-take a i L = omega (arith, times-append a (take i L) (drop i L), ap (times a) (take-append-drop i L))
 
-pub times-without : (b a : ℕ) (L : List ℕ) → times b (without a L) ≤ times b L
-times-without b a [] = omega arith
-times-without b a (x ∷ xs) = cond-both (eqb a x) xs (x ∷ without a xs) (λ M. times b M ≤ times b (x ∷ xs)) (λ e. omega arith) (λ e. omega (arith, times-without b a xs))
+-- a code that is taken out stands there one time less, and any other as often
+pub times-without : (a c : ℕ) (L : List ℕ) → times a (without c L) ≡ times a L - cond (eqb a c) 1 0
+times-without a c [] = cond-both (eqb a c) 1 0 (λ v. 0 ≡ 0 - v) (λ e. omega arith) (λ e. omega arith)
+times-without a c (x ∷ xs) =
+    ⊎-elim
+    (λ t. ap (times a) (cond-true (eqb c x) xs (x ∷ without c xs) t) ∙ omega (arith, ap (λ y. cond {A = ℕ} (eqb a y) 1 0) (eqb-true c x t)))
+    (λ t.
+    let h = times-without a c xs in
+    let ne = eqb-false c x t in
+    ap (times a) (cond-false (eqb c x) xs (x ∷ without c xs) t)
+    ∙ ⊎-elim
+    (λ e. let off = cond-false {A = ℕ} (eqb a x) 1 0 (ne-eqb a x (λ p. ne (sym (eqb-true a c e) ∙ p))) in let on = cond-true {A = ℕ} (eqb a c) 1 0 e in omega arith)
+    (λ e. let off = cond-false {A = ℕ} (eqb a c) 1 0 e in omega arith)
+    (cases-bool (eqb a c)))
+    (cases-bool (eqb c x))
 
 pub times-removed : (a i : ℕ) (L : List ℕ) → times a (removed L i) ≤ times a L
 times-removed a zero [] = omega arith

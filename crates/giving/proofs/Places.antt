@@ -66,6 +66,16 @@ place-only a (suc k) (x ∷ xs) o h e =
     (λ t. cond-false (eqb a x) 0 (suc (place a xs)) t ∙ ap suc (place-only a k xs (λ b. omega (arith, o b)) (omega arith) e))
     (cases-bool (eqb a x))
 
+-- a new code that is put in at a seat has that place
+pub place-inserted : (a s : ℕ) (L : List ℕ) → times a L ≡ 0 → s ≤ length L → place a (inserted L s a) ≡ s
+place-inserted a zero L z h = cond-true (eqb a a) 0 (suc (place a L)) (eq-eqb a a refl)
+place-inserted a (suc s) [] z h = absurd (omega arith)
+place-inserted a (suc s) (x ∷ xs) z h =
+    ⊎-elim
+    (λ t. absurd (omega (arith, cond-true {A = ℕ} (eqb a x) 1 0 t)))
+    (λ t. cond-false (eqb a x) 0 (suc (place a (inserted xs s a))) t ∙ ap suc (place-inserted a s xs (omega (arith, cond-false {A = ℕ} (eqb a x) 1 0 t)) (omega arith)))
+    (cases-bool (eqb a x))
+
 -- ---- the list without a code
 pub without-absent : (a : ℕ) (L : List ℕ) → times a L ≡ 0 → without a L ≡ L
 without-absent a [] z = refl
@@ -194,6 +204,7 @@ pub record Found (a : ℕ) (L : List ℕ) (r : ℕ) : Type 0 where
   pub within : r ≤ length L
   pub there : r < length L → getD L r 0 ≡ a
   pub only : Once L → (k : ℕ) → k < length L → getD L k 0 ≡ a → r ≡ k
+  pub seated : r ≡ length L → (s : ℕ) → s ≤ length L → place a (inserted L s a) ≡ s
 
 pub found : (a r : ℕ) (L : List ℕ) → r ≡ place a L → Found a L r
 found a r L e = record {
@@ -201,4 +212,5 @@ found a r L e = record {
   within = omega (arith, place-le a L);
   there = λ h. ap (λ k. getD L k 0) e ∙ place-there a L (omega arith);
   only = λ o k h q. e ∙ place-only a k L o h q;
+  seated = λ z s h. place-inserted a s L (times-absent a L (omega arith)) h;
 }

@@ -11,7 +11,7 @@ pub returns-then-list-i : need.returns-then-list-i
 returns-then-list-i c =
     let L = c .args .list .now in
     let f = found (c .args .code) (c .loop-i .i) L (omega (arith, found-here (c .args .code) (c .loop-i .i) L (omega arith) (c .if-list-i .taken))) in
-    record { value = f .value; within = f .within; there = f .there; only = f .only }
+    record { value = f .value; within = f .within; there = f .there; only = f .only; seated = f .seated }
 
 pub loop-i-again : need.loop-i-again
 loop-i-again c =
@@ -23,4 +23,4 @@ returns c =
     let L = c .args .list .now in
     let e : length L ≡ place (c .args .code) L = omega (arith, at-drop-all (place (c .args .code)) L (c .loop-i .i) (omega arith)) in
     let f = found (c .args .code) (length L) L e in
-    record { value = f .value; within = f .within; there = f .there; only = f .only }
+    record { value = f .value; within = f .within; there = f .there; only = f .only; seated = f .seated }
