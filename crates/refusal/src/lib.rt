@@ -4,13 +4,14 @@ ghost use Rattle.std.specs.declared.option.Option.the-variants.{Some};
 ghost use Rattle.refusal.specs.Wording.{layerName, refusalLine};
 use std::fmt;
 
-// The layer that refuses: the frame of a trace, a record in it, an item's number, the sheet.
+// The layer that refuses: the frame of a trace, a record in it, an item's number, the sheet, a strict object.
 #[derive(Clone, Copy, PartialEq, Eq, Debug)]
 pub enum Layer {
     Frame,
     Record,
     Item,
     Sheet,
+    Holder,
 }
 
 // A refusal in plain numbers. The place is the number of a record or a step, and 0 where the layer has none;
@@ -33,6 +34,7 @@ impl Layer {
             Layer::Record => "record",
             Layer::Item => "item",
             Layer::Sheet => "sheet",
+            Layer::Holder => "holder",
         }
     }
 }
