@@ -7,6 +7,9 @@ use item::item::Item;
 use sheet::operation::Method;
 use sheet::operation::Operation;
 
+// The bytes of one record.
+pub type RecordBytes = [u8; 24];
+
 // The first 48 bits of a record: the method, six zero bits and the item field.
 fn word_of<I: Item>(method: &Method<I>) -> u64
     ensures word { λ r. ⌜ r ≡ wordOf I·Item (now (method .entry)) ⌝ }
@@ -20,7 +23,7 @@ fn word_of<I: Item>(method: &Method<I>) -> u64
 }
 
 // The 24 bytes of a record's fields.
-fn lay_out(word: u64, thread: u16, start: u64, end: u64) -> [u8; 24]
+fn lay_out(word: u64, thread: u16, start: u64, end: u64) -> RecordBytes
     ensures { λ r. ⌜ r ≡ big 6 word ++ big 2 thread ++ big 8 start ++ big 8 end ⌝ }
 {
     let w = word.to_be_bytes();
@@ -56,7 +59,7 @@ fn lay_out(word: u64, thread: u16, start: u64, end: u64) -> [u8; 24]
 }
 
 // The 24 bytes that say the operation.
-pub fn encode<I: Item>(op: &Operation<I>) -> [u8; 24]
+pub fn encode<I: Item>(op: &Operation<I>) -> RecordBytes
     ensures bytes { λ r. ⌜ r ≡ encodeRecord I·Item (now (op .entry)) ⌝ }
     ensures fit { λ _. ⌜ Fit I·Item (now (op .entry)) ⌝ }
     ensures says_the_operation { λ r. ⌜ decodeRecord I·Item r ≡ Ok (now (op .entry)) ⌝ }

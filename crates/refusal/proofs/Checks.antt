@@ -15,12 +15,3 @@ module _ {A E : Type 0} where
   pub pass : (b : Bool) (f : E) (r : Result A E) (y : A) → b ≡ false → r ≡ Ok y → cond b (Err f) r ≡ Ok y
   pass true f r y p e = let z : _≡_ {A = ℕ} 0 1 = cc in absurd (omega arith)
   pass false f r y p e = e
-
-  -- a check that refuses where its test fails
-  pub met : (b : Bool) (f : E) (r : Result A E) (y : A) → cond b r (Err f) ≡ Ok y → (b ≡ true) × (r ≡ Ok y)
-  met true f r y e = (refl, e)
-  met false f r y e = let z : _≡_ {A = ℕ} 0 1 = cc in absurd (omega arith)
-
-  pub meet : (b : Bool) (f : E) (r : Result A E) (y : A) → b ≡ true → r ≡ Ok y → cond b r (Err f) ≡ Ok y
-  meet true f r y p e = e
-  meet false f r y p e = let z : _≡_ {A = ℕ} 0 1 = cc in absurd (omega arith)

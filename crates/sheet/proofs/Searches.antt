@@ -15,7 +15,7 @@ use Rattle.sheet.specs.declared.operation.Method.{Method}
 use Rattle.sheet.specs.declared.operation.Method.the-variants.{Add, Take, FoundEmpty}
 use Rattle.sheet.specs.declared.operation.Operation.{Operation}
 use Rattle.sheet.specs.Search.{alike, firstAlike}
-use Rattle.sheet.specs.Pairing.{AddsItem, IsAdd, LowestAdd}
+use Rattle.sheet.specs.Pairing.{addOf, pairOfMethod, pairOf, AddsItem, IsAdd, LowestAdd, PairsMethod, Pairs}
 
 module _ {I : Type 0} (number : I → ℕ) (m : Method I) (k : ℕ) (xs : List (Operation I)) where
   step : (x : Operation I) → k < length xs → x ≡ getD xs k x →
@@ -84,3 +84,13 @@ module _ {I : Type 0} (number : I → ℕ) (x : I) where
 
   pub lowest-add : (os : List (Operation I)) (r : Option ℕ) → r ≡ firstAlike number (Add x) 0 os → LowestAdd number (number x) os r
   lowest-add os r e = from-zero os r (subst (LowestFrom 0 os) (sym e) (lowest-from 0 os))
+
+module _ {I : Type 0} (number : I → ℕ) (os : List (Operation I)) where
+  pairs-method : (m : Method I) → PairsMethod number os m (pairOfMethod number os m)
+  pairs-method (Add x) = refl
+  pairs-method (Take x) = lowest-add number x os (addOf number x os) refl
+  pairs-method FoundEmpty = refl
+
+  pub pairs : (o : Option (Operation I)) (r : Option ℕ) → r ≡ pairOf number os o → Pairs number os o r
+  pairs None r e = e
+  pairs (Some o) r e = subst (PairsMethod number os (o .method)) (sym e) (pairs-method (o .method))

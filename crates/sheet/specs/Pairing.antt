@@ -39,3 +39,13 @@ module _ {I : Type 0} (number : I → ℕ) where
   abbrev pub LowestAdd : ℕ → List (Operation I) → Option ℕ → Type 0
   LowestAdd n os None = (k : ℕ) → IsAdd n os k → ⊥
   LowestAdd n os (Some k) = IsAdd n os k × ((j : ℕ) → j < k → IsAdd n os j → ⊥)
+
+  abbrev pub PairsMethod : List (Operation I) → Method I → Option ℕ → Type 0
+  PairsMethod os (Add x) r = r ≡ None
+  PairsMethod os (Take x) r = LowestAdd (number x) os r
+  PairsMethod os FoundEmpty r = r ≡ None
+
+  -- r is the pairing of an operation: of a take the lowest-numbered add of its item, of any other none
+  abbrev pub Pairs : List (Operation I) → Option (Operation I) → Option ℕ → Type 0
+  Pairs os None r = r ≡ None
+  Pairs os (Some o) r = PairsMethod os (o .method) r

@@ -1,7 +1,7 @@
 -- Reading a trace and writing it back.
 use Prim.Native.Nat.{ℕ, _+_, _*_, _≤_}
 use mathlib.Core.Path.{_≡_, refl, sym, _∙_, ap}
-use mathlib.Core.Bool.{Bool, true, false, cond}
+use mathlib.Core.Bool.{Bool, true, false, cond, not}
 use mathlib.Core.List.{List, _++_}
 use native.Mathlib.Omega.{arith}
 use lib.Dec.{ltb, eqb}
@@ -37,9 +37,9 @@ module _ {I : Type 0} (t : Ghosts I) (room bytes : ℕ) (c : Contents I) (sound 
       let k = sound .kind in
       let o = sound .ordered in
       let a : ltb 2 (c .kind) ≡ false = grind (arith, tells) in
-      let b : eqb (length (c .order)) (length (c .ops)) ≡ true = grind (arith, tells) in
-      ap (λ x. cond x (Err Kind) (cond (eqb (length (c .order)) (length (c .ops))) (cond (ltb bytes (8 + 26 * length (c .ops))) (Err Memory) (Ok tt)) (Err OrderLength))) a
-      ∙ ap (λ x. cond x (cond (ltb bytes (8 + 26 * length (c .ops))) (Err Memory) (Ok tt)) (Err OrderLength)) b
+      let b : not (eqb (length (c .order)) (length (c .ops))) ≡ false = grind (arith, tells) in
+      ap (λ x. cond x (Err Kind) (cond (not (eqb (length (c .order)) (length (c .ops)))) (Err OrderLength) (cond (ltb bytes (8 + 26 * length (c .ops))) (Err Memory) (Ok tt)))) a
+      ∙ ap (λ x. cond x (Err OrderLength) (cond (ltb bytes (8 + 26 * length (c .ops))) (Err Memory) (Ok tt))) b
 
   refused-by : (b : Bool) (f : WriteFault) → _≡_ {A = Result (Unit {0}) WriteFault} (Err f) (cond b (Err Memory) (Ok tt)) → Err (Writing f) ≡ cond b (Err (Writing Memory)) (Ok (sayingOf c))
   refused-by true f e = let q : f ≡ Memory = cc in ap (λ z. Err (Writing z)) q

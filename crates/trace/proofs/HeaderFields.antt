@@ -1,7 +1,7 @@
 -- A header's bytes and its fields determine one another.
 use Prim.Native.Nat.{ℕ, _+_, _*_, _/_, _%_, _^_, _<_, _≤_}
 use mathlib.Core.Path.{_≡_, refl, sym, _∙_, ap}
-use mathlib.Core.Bool.{true, false, cond}
+use mathlib.Core.Bool.{false, cond, not}
 use mathlib.Core.List.{List, [], _∷_, _++_, append-assoc}
 use native.Mathlib.Omega.{arith}
 use lib.Dec.{ltb, eqb}
@@ -10,7 +10,7 @@ use Rattle.std.proofs.shelf.Ways.{tells}
 use Rattle.std.specs.shelf.Digits.{number}
 use Rattle.std.specs.declared.result.Result.{Result}
 use Rattle.std.specs.declared.result.Result.the-variants.{Ok, Err}
-use Rattle.refusal.proofs.Checks.{passed, met, pass, meet}
+use Rattle.refusal.proofs.Checks.{passed, pass}
 use Rattle.record.specs.Bytes.{big, Bytes}
 use Rattle.record.proofs.Digits.{length-big, big-number, bytes-take, bytes-drop, field, with-four}
 use Rattle.trace.specs.declared.fault.FrameFault.{FrameFault}
@@ -33,13 +33,13 @@ record Words (code bytes word n k spare : ℕ) (h : Header) : Type 0 where
 
 words-back : (code bytes word n k spare : ℕ) (h : Header) → headerOf code bytes word n k spare ≡ Ok h → Words code bytes word n k spare h
 words-back code bytes word n k spare h e =
-    let a = met (eqb (word / 4096) 1) Version _ h e in
+    let a = passed (not (eqb (word / 4096) 1)) Version _ h e in
     let b = passed (ltb 2 (word / 256 % 16)) Kind _ h (a .1) in
-    let c = met (eqb (word / 16 % 16) code) ItemType _ h (b .1) in
+    let c = passed (not (eqb (word / 16 % 16) code)) ItemType _ h (b .1) in
     let d = passed (ltb 0 (word % 16)) SpareBit _ h (c .1) in
     let f = passed (ltb 0 spare) SpareBit _ h (d .1) in
     let g = passed (ltb 1024 n) Count _ h (f .1) in
-    let i = met (eqb bytes (8 + 26 * n)) Length _ h (g .1) in
+    let i = passed (not (eqb bytes (8 + 26 * n))) Length _ h (g .1) in
     let p : record { kind = word / 256 % 16; count = n; k = k } ≡ h = let q = i .1 in cc in
     let v : word / 4096 ≡ 1 = let q = a .0 in grind (arith, tells) in
     let s : word / 256 % 16 ≤ 2 = let q = b .0 in grind (arith, tells) in
@@ -59,14 +59,14 @@ words-back code bytes word n k spare h e =
 words-there : (code kind n k : ℕ) → code < 16 → kind ≤ 2 → n ≤ 1024 →
     headerOf code (8 + 26 * n) (4096 + kind * 256 + code * 16) n k 0 ≡ Ok (record { kind = kind; count = n; k = k })
 words-there code kind n k c h l =
-    let a : eqb ((4096 + kind * 256 + code * 16) / 4096) 1 ≡ true = grind (arith, tells) in
+    let a : not (eqb ((4096 + kind * 256 + code * 16) / 4096) 1) ≡ false = grind (arith, tells) in
     let b : ltb 2 ((4096 + kind * 256 + code * 16) / 256 % 16) ≡ false = grind (arith, tells) in
-    let d : eqb ((4096 + kind * 256 + code * 16) / 16 % 16) code ≡ true = grind (arith, tells) in
+    let d : not (eqb ((4096 + kind * 256 + code * 16) / 16 % 16) code) ≡ false = grind (arith, tells) in
     let e : ltb 0 ((4096 + kind * 256 + code * 16) % 16) ≡ false = grind (arith, tells) in
     let f : ltb 1024 n ≡ false = grind (arith, tells) in
-    let g : eqb (8 + 26 * n) (8 + 26 * n) ≡ true = grind (arith, tells) in
+    let g : not (eqb (8 + 26 * n) (8 + 26 * n)) ≡ false = grind (arith, tells) in
     let i : (4096 + kind * 256 + code * 16) / 256 % 16 ≡ kind = omega arith in
-    meet _ Version _ _ a (pass _ Kind _ _ b (meet _ ItemType _ _ d (pass _ SpareBit _ _ e (pass _ SpareBit _ _ refl (pass _ Count _ _ f (meet _ Length _ _ g
+    pass _ Version _ _ a (pass _ Kind _ _ b (pass _ ItemType _ _ d (pass _ SpareBit _ _ e (pass _ SpareBit _ _ refl (pass _ Count _ _ f (pass _ Length _ _ g
     (ap (λ m. Ok (record { kind = m; count = n; k = k })) i)))))))
 
 pub frame-there : (code kind n k : ℕ) (rest : List ℕ) → code < 16 → kind ≤ 2 → n ≤ 1024 → k < 2 ^ 16 → length rest ≡ 26 * n →

@@ -1,7 +1,7 @@
 -- Writing a trace part by part.
 use Prim.Native.Nat.{ℕ, _+_, _*_, _^_, _<_, _≤_}
 use mathlib.Core.Path.{_≡_, refl, sym, _∙_, ap}
-use mathlib.Core.Bool.{true, false}
+use mathlib.Core.Bool.{false, not}
 use mathlib.Core.List.{List, [], _∷_, _++_, append-assoc, append-nil}
 use native.Mathlib.Omega.{arith}
 use native.Mathlib.Numerals.{add-one}
@@ -13,7 +13,7 @@ use Rattle.std.proofs.shelf.Lists.{drop-drop, take-append-drop, take-more, join
 use Rattle.std.proofs.shelf.Ways.{tells}
 use Rattle.std.specs.shelf.Lists.{joined}
 use Rattle.std.specs.declared.result.Result.the-variants.{Ok, Err}
-use Rattle.refusal.proofs.Checks.{pass, meet}
+use Rattle.refusal.proofs.Checks.{pass}
 use Rattle.item.specs.declared.item.Item.{Ghosts}
 use Rattle.item.specs.Items.{Lawful}
 use Rattle.sheet.specs.Consistency.{Consistent}
@@ -90,9 +90,9 @@ whole t code kind k ops order head mem o₁ o₂ o₃ same e h p q r =
 pub answering : (kind n m size : ℕ) → kind ≤ 2 → m ≡ n → 8 + 26 * n ≤ size → Ok tt ≡ writing kind n m size
 answering kind n m size h e l =
     let a : ltb 2 kind ≡ false = grind (arith, tells) in
-    let b : eqb m n ≡ true = grind (arith, tells) in
+    let b : not (eqb m n) ≡ false = grind (arith, tells) in
     let d : ltb size (8 + 26 * n) ≡ false = grind (arith, tells) in
-    sym (pass (ltb 2 kind) Kind _ tt a (meet (eqb m n) OrderLength _ tt b (pass (ltb size (8 + 26 * n)) Memory _ tt d refl)))
+    sym (pass (ltb 2 kind) Kind _ tt a (pass (not (eqb m n)) OrderLength _ tt b (pass (ltb size (8 + 26 * n)) Memory _ tt d refl)))
 
 -- a written trace reads as what went in
 pub reads-back : {I : Type 0} (t : Ghosts I) → Lawful t → (kind k : ℕ) (ops : List (Operation I)) (order out rest : List ℕ) → kind ≤ 2 → k < 2 ^ 16 →

@@ -1,6 +1,6 @@
 -- The header: 4 bits each of version, kind, item type and spare, then 16 bits each of count, k and spare.
 use Prim.Native.Nat.{ℕ, _+_, _*_, _/_, _%_}
-use mathlib.Core.Bool.{cond}
+use mathlib.Core.Bool.{cond, not}
 use mathlib.Core.List.{List, _++_}
 use lib.Dec.{ltb, eqb}
 use lib.ListN.{length, take, drop}
@@ -15,15 +15,13 @@ use Rattle.trace.specs.declared.header.Header.{Header}
 -- the header of four words of 16 bits, of a trace of that many bytes
 abbrev pub headerOf : ℕ → ℕ → ℕ → ℕ → ℕ → ℕ → Result Header FrameFault
 headerOf code bytes word count k spare =
-    cond (eqb (word / 4096) 1)
+    cond (not (eqb (word / 4096) 1)) (Err Version)
     (cond (ltb 2 (word / 256 % 16)) (Err Kind)
-    (cond (eqb (word / 16 % 16) code)
+    (cond (not (eqb (word / 16 % 16) code)) (Err ItemType)
     (cond (ltb 0 (word % 16)) (Err SpareBit)
     (cond (ltb 0 spare) (Err SpareBit)
     (cond (ltb 1024 count) (Err Count)
-    (cond (eqb bytes (8 + 26 * count)) (Ok (record { kind = word / 256 % 16; count = count; k = k })) (Err Length)))))
-    (Err ItemType)))
-    (Err Version)
+    (cond (not (eqb bytes (8 + 26 * count))) (Err Length) (Ok (record { kind = word / 256 % 16; count = count; k = k }))))))))
 
 -- what the header of a trace says to a reader of the item type with that code
 abbrev pub frameOf : ℕ → List ℕ → Result Header FrameFault

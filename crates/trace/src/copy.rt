@@ -32,6 +32,7 @@ pub fn copy<'a, I: Item>(
     ensures answer { λ r. ⌜ Copied r (copying (length (now (out .entry))) (reading I·Item (room (now (sheet .entry))) (now (bytes .entry)))) ⌝ }
     ensures entered { λ r. ⌜ entered (now (sheet .exit)) ≡ held (entered (now (sheet .entry))) (reading I·Item (room (now (sheet .entry))) (now (bytes .entry))) ⌝ }
     ensures memory { λ r. ⌜ memory (now (sheet .exit)) ≡ filled (entered (now (sheet .exit))) (memory (now (sheet .entry))) ⌝ }
+    ensures room { λ r. ⌜ room (now (sheet .exit)) ≡ room (now (sheet .entry)) ⌝ }
     ensures lender { λ r. ⌜ name (now (sheet .exit) .records) ≡ name (now (sheet .entry) .records) ⌝ }
     ensures written_back_is_its_own_bytes { λ r. ⌜ Cases r (λ _. now (out .exit) ≡ now (bytes .entry) ++ drop (length (now (bytes .entry))) (now (out .entry))) (λ _. now (out .exit) ≡ now (out .entry)) ⌝ }
     ensures written_reads_as_what_went_in { λ r. ⌜ made r (λ a. (n : ℕ) → length (entered (now (sheet .exit))) ≤ n → reading I·Item n (take (length (now (bytes .entry))) (now (out .exit))) ≡ accepted (contentsOf a (entered (now (sheet .exit))))) ⌝ }

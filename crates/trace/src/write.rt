@@ -21,8 +21,11 @@ use record::encoding::encode;
 use sheet::operation::Operation;
 use sheet::sheet::Sheet;
 
+// The bytes of a header.
+type HeaderBytes = [u8; 8];
+
 // The 8 bytes of a header.
-fn header_bytes(code: u8, kind: u8, count: u16, k: u16) -> [u8; 8]
+fn header_bytes(code: u8, kind: u8, count: u16, k: u16) -> HeaderBytes
     ensures { λ r. ⌜ r ≡ headerBytes code kind count k ⌝ }
 {
     let word = (4096 + kind as u32 * 256 + code as u32 * 16).to_be_bytes();

@@ -7,7 +7,7 @@ ghost use denote.Ref.{name};
 ghost use Rattle.std.specs.Results.{isOk};
 ghost use Rattle.std.specs.shelf.Maps.{nth};
 ghost use Rattle.sheet.specs.Entering.{enterAnswer, repeatedFault};
-ghost use Rattle.sheet.specs.Pairing.{pairOf};
+ghost use Rattle.sheet.specs.Pairing.{pairOf, Pairs};
 ghost use Rattle.sheet.specs.Consistency.{Consistent};
 ghost use Rattle.sheet.specs.Sheets.{memory, entered, room, filled};
 use crate::fault::SheetFault;
@@ -128,13 +128,21 @@ impl<'a, I: Item> Sheet<'a, I> {
         }
     }
 
-    // The pairing: the number of the add that the take of that number belongs to, or none.
-    pub fn pair(&self, number: usize) -> Option<usize>
+    // The number of the add that the operation of that number is found to belong to.
+    fn find_pair(&self, number: usize) -> Option<usize>
         ensures { λ r. ⌜ r ≡ pairOf (I·Item .number) (entered (now (self .entry))) (nth (entered (now (self .entry))) number) ⌝ }
     {
         match self.operation(number)?.method {
             Method::Take(item) => add_of(self.all(), &item),
             _ => None,
         }
+    }
+
+    // The pairing: the number of the add that the take of that number belongs to, or none.
+    pub fn pair(&self, number: usize) -> Option<usize>
+        ensures answer { λ r. ⌜ r ≡ pairOf (I·Item .number) (entered (now (self .entry))) (nth (entered (now (self .entry))) number) ⌝ }
+        ensures lowest_add_of_the_item { λ r. ⌜ Pairs (I·Item .number) (entered (now (self .entry))) (nth (entered (now (self .entry))) number) r ⌝ }
+    {
+        self.find_pair(number)
     }
 }

@@ -17,7 +17,7 @@ loop-number-again g c =
     elim (c .match-operation .came) [
       | in-Some·in-Continue-line·in-Continue-push-str w ↦
           listed (g .I·Item) os n text (c .loop-number .inv) (string-bytes (c .match-operation .text)) (string-bytes (w .in-Continue-line .line)) (w .in-Some .op) (w .pair .result)
-          (w .in-Some .ensures tt) (w .pair .ensures) (w .in-Continue-line .ensures tt)
+          (w .in-Some .ensures tt) (w .pair .ensures .answer) (w .in-Continue-line .ensures tt)
           (ap string-bytes (w .text-is) ∙ w .in-Continue-push-str .ensures tt .bytes ∙ ap (λ z. text ++ z) (w .as-str .ensures .value))
       | in-rest w ↦ ap string-bytes (w .text-is) ∙ none-listed (g .I·Item) os n text (c .loop-number .inv) (w .in-rest .ensures tt)
     ]
