@@ -4,7 +4,7 @@ use refusal::Layer;
 use refusal::Refusal;
 
 // Why a number is no item, or no part of one.
-#[derive(Clone, Copy, PartialEq, Eq, Debug)]
+#[derive(Clone, Copy)]
 pub enum ItemFault {
     // no item of the type has that number
     OutsideType,

@@ -3,7 +3,7 @@ ghost use Rattle.item.specs.Lanes.{laneNumber, laneNamed};
 use crate::fault::ItemFault;
 
 // A lane, from 0 to 63: six single bits, so that every value of the type is a lane.
-#[derive(Clone, Copy, PartialEq, Eq, Debug)]
+#[derive(Clone, Copy)]
 pub struct Lane {
     bit5: bool,
     bit4: bool,

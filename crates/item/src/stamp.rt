@@ -2,11 +2,9 @@ ghost use Rattle.item.specs.Stamps.{stampNumber, stampFit, stampNamed};
 use crate::fault::ItemFault;
 use crate::item::Item;
 use crate::lane::Lane;
-use crate::lane::LaneDebug;
-use crate::lane::LanePartialEq;
 
 // A stamp: a serial of 32 bits, or a lane with a count of 32 bits.
-#[derive(Clone, Copy, PartialEq, Eq, Debug)]
+#[derive(Clone, Copy)]
 pub enum Stamp {
     Serial(u32),
     InLane(Lane, u32),

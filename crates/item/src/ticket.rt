@@ -4,7 +4,7 @@ use crate::fault::ItemFault;
 use crate::item::Item;
 
 // A ticket: a number of 32 bits, which is its own item number.
-#[derive(Clone, Copy, PartialEq, Eq, Debug)]
+#[derive(Clone, Copy)]
 pub struct Ticket {
     pub number: u32,
 }

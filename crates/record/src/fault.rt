@@ -2,13 +2,11 @@ ghost use mathlib.Core.Path.{_≡_};
 ghost use Rattle.record.specs.declared.fault.RecordFault.the-variants.{Item};
 ghost use Rattle.record.specs.Faults.{recordRefusal};
 use item::fault::ItemFault;
-use item::fault::ItemFaultDebug;
-use item::fault::ItemFaultPartialEq;
 use refusal::Layer;
 use refusal::Refusal;
 
 // Why a record's bytes are no operation.
-#[derive(Clone, Copy, PartialEq, Eq, Debug)]
+#[derive(Clone, Copy)]
 pub enum RecordFault {
     // method 3
     NoSuchMethod,

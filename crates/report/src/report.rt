@@ -42,7 +42,7 @@ pub struct Report {
 }
 
 // Why there is no report.
-#[derive(Clone, Copy, PartialEq, Eq, Debug)]
+#[derive(Clone, Copy)]
 pub enum ReportFault {
     NoMemory,
     // an accepted trace, written back, was not its own bytes: this never happens

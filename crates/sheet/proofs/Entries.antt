@@ -22,7 +22,7 @@ use Rattle.sheet.specs.declared.operation.Method.the-variants.{Add, Take, Foun
 use Rattle.sheet.specs.declared.operation.Operation.{Operation}
 use Rattle.sheet.specs.declared.fault.SheetFault.{SheetFault}
 use Rattle.sheet.specs.declared.fault.SheetFault.the-variants.{Full, EndBeforeStart}
-use Rattle.sheet.specs.Search.{alike, firstAlike}
+use Rattle.sheet.specs.Alike.{alike, firstAlike}
 use Rattle.sheet.specs.Consistency.{Same, New, Consistent}
 use Rattle.sheet.specs.Entering.{enterAnswer, unlessRepeated}
 

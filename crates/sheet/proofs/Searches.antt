@@ -14,7 +14,7 @@ use Rattle.std.specs.shelf.Maps.{nth}
 use Rattle.sheet.specs.declared.operation.Method.{Method}
 use Rattle.sheet.specs.declared.operation.Method.the-variants.{Add, Take, FoundEmpty}
 use Rattle.sheet.specs.declared.operation.Operation.{Operation}
-use Rattle.sheet.specs.Search.{alike, firstAlike}
+use Rattle.sheet.specs.Alike.{alike, firstAlike}
 use Rattle.sheet.specs.Pairing.{addOf, pairOfMethod, pairOf, AddsItem, IsAdd, LowestAdd, PairsMethod, Pairs}
 
 module _ {I : Type 0} (number : I → ℕ) (m : Method I) (k : ℕ) (xs : List (Operation I)) where

@@ -13,7 +13,7 @@ use Rattle.sheet.specs.declared.operation.Method.the-variants.{Add, Take, Foun
 use Rattle.sheet.specs.declared.operation.Operation.{Operation}
 use Rattle.sheet.specs.declared.fault.SheetFault.{SheetFault}
 use Rattle.sheet.specs.declared.fault.SheetFault.the-variants.{Full, EndBeforeStart, AddedAlready, TakenAlready}
-use Rattle.sheet.specs.Search.{firstAlike}
+use Rattle.sheet.specs.Alike.{firstAlike}
 
 module _ {I : Type 0} where
   -- the fault of a method at a place that does what an earlier operation did

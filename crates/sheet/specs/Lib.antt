@@ -1,5 +1,5 @@
 pub mod Faults
-pub mod Search
+pub mod Alike
 pub mod Pairing
 pub mod Entering
 pub mod Consistency

@@ -8,7 +8,7 @@ use Rattle.std.specs.shelf.Maps.{nth}
 use Rattle.sheet.specs.declared.operation.Method.{Method}
 use Rattle.sheet.specs.declared.operation.Method.the-variants.{Add, Take, FoundEmpty}
 use Rattle.sheet.specs.declared.operation.Operation.{Operation}
-use Rattle.sheet.specs.Search.{firstAlike}
+use Rattle.sheet.specs.Alike.{firstAlike}
 
 module _ {I : Type 0} (number : I → ℕ) where
   -- the number of the add of the item

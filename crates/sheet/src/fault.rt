@@ -4,7 +4,7 @@ use refusal::Layer;
 use refusal::Refusal;
 
 // Why an operation is not entered. The place is the number that it would get.
-#[derive(Clone, Copy, PartialEq, Eq, Debug)]
+#[derive(Clone, Copy)]
 pub enum SheetFault {
     Full { place: u16 },
     EndBeforeStart { place: u16 },

@@ -3,9 +3,9 @@ ghost use Prim.Native.Nat.{ℕ, _<_};
 ghost use lib.ListN.{length};
 ghost use Rattle.std.specs.declared.option.Option.the-variants.{Some, None};
 ghost use Rattle.sheet.specs.Pairing.{addOf, LowestAdd};
+use crate::alike::first_alike;
 use crate::operation::Method;
 use crate::operation::Operation;
-use crate::search::first_alike;
 use item::item::Item;
 
 // The number of the add that a take of the item belongs to: the lowest-numbered add of the same item, or none.

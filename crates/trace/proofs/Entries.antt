@@ -20,7 +20,7 @@ use Rattle.sheet.specs.declared.operation.Method.{Method}
 use Rattle.sheet.specs.declared.operation.Method.the-variants.{Add, Take, FoundEmpty}
 use Rattle.sheet.specs.declared.operation.Operation.{Operation}
 use Rattle.sheet.specs.declared.fault.SheetFault.the-variants.{Full, EndBeforeStart}
-use Rattle.sheet.specs.Search.{alike, firstAlike}
+use Rattle.sheet.specs.Alike.{alike, firstAlike}
 use Rattle.sheet.specs.Consistency.{Same, New, Consistent}
 use Rattle.sheet.specs.Entering.{enterAnswer, unlessRepeated}
 use Rattle.sheet.proofs.Entries.{enter-back, enter-number}

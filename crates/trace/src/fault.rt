@@ -4,17 +4,13 @@ ghost use Rattle.trace.specs.declared.fault.ReadFault.the-variants.{Frame, Ent
 ghost use Rattle.trace.specs.declared.fault.CopyFault.the-variants.{Reading, Writing, NoMemory};
 ghost use Rattle.trace.specs.Faults.{frameRefusal, entryRefusal, readRefusal, writeRefusal, copyRefusal};
 use record::fault::RecordFault;
-use record::fault::RecordFaultDebug;
-use record::fault::RecordFaultPartialEq;
 use refusal::Layer;
 use refusal::Refusal;
 use sheet::fault::SheetFault;
-use sheet::fault::SheetFaultDebug;
-use sheet::fault::SheetFaultPartialEq;
 use std::alloc::AllocError;
 
 // Why a header is not that of a trace.
-#[derive(Clone, Copy, PartialEq, Eq, Debug)]
+#[derive(Clone, Copy)]
 pub enum FrameFault {
     // under 8 bytes
     Short,
@@ -33,28 +29,28 @@ pub enum FrameFault {
 }
 
 // Why a record's operation is not entered.
-#[derive(Clone, Copy, PartialEq, Eq, Debug)]
+#[derive(Clone, Copy)]
 pub enum EntryFault {
     Record(RecordFault),
     Sheet(SheetFault),
 }
 
 // A fault with the number of the record that has it.
-#[derive(Clone, Copy, PartialEq, Eq, Debug)]
+#[derive(Clone, Copy)]
 pub struct RefusedRecord {
     pub place: u16,
     pub fault: EntryFault,
 }
 
 // Why a trace is not accepted.
-#[derive(Clone, Copy, PartialEq, Eq, Debug)]
+#[derive(Clone, Copy)]
 pub enum ReadFault {
     Frame(FrameFault),
     Entry(RefusedRecord),
 }
 
 // Why a trace is not written.
-#[derive(Clone, Copy, PartialEq, Eq, Debug)]
+#[derive(Clone, Copy)]
 pub enum WriteFault {
     // the kind is above 2
     Kind,
@@ -65,7 +61,7 @@ pub enum WriteFault {
 }
 
 // Why a trace is not read and written back.
-#[derive(Clone, Copy, PartialEq, Eq, Debug)]
+#[derive(Clone, Copy)]
 pub enum CopyFault {
     Reading(ReadFault),
     Writing(WriteFault),

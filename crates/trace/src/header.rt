@@ -7,7 +7,7 @@ use crate::fault::FrameFault;
 use record::bytes::number_at;
 
 // What the header of a trace says: the kind of strict object, the number of operations and the bound k.
-#[derive(Clone, Copy, PartialEq, Eq, Debug)]
+#[derive(Clone, Copy)]
 pub struct Header {
     pub kind: u8,
     pub count: u16,

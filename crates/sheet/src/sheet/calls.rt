@@ -10,11 +10,11 @@ ghost use Rattle.sheet.specs.Entering.{enterAnswer, repeatedFault};
 ghost use Rattle.sheet.specs.Pairing.{pairOf, Pairs};
 ghost use Rattle.sheet.specs.Consistency.{Consistent};
 ghost use Rattle.sheet.specs.Sheets.{memory, entered, room, filled};
+use crate::alike::first_alike;
 use crate::fault::SheetFault;
 use crate::operation::Method;
 use crate::operation::Operation;
 use crate::pairing::add_of;
-use crate::search::first_alike;
 use crate::sheet::Sheet;
 use item::item::Item;
 
@@ -103,7 +103,7 @@ impl<'a, I: Item> Sheet<'a, I> {
     pub fn count(&self) -> usize
         ensures { λ r. ⌜ r ≡ length (entered (now (self .entry))) ⌝ }
     {
-        self.count
+        self.all().len()
     }
 
     // The operations entered, in the order of their numbers.

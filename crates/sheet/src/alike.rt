@@ -2,7 +2,7 @@ ghost use mathlib.Core.Path.{_≡_};
 ghost use Prim.Native.Nat.{_<_};
 ghost use lib.ListN.{length};
 ghost use Rattle.std.specs.declared.option.Option.the-variants.{Some, None};
-ghost use Rattle.sheet.specs.Search.{alike, firstAlike};
+ghost use Rattle.sheet.specs.Alike.{alike, firstAlike};
 use crate::operation::Method;
 use crate::operation::Operation;
 use item::item::Item;

@@ -1,7 +1,7 @@
 use mathlib.Core.Path.{_≡_}
 use lib.ListN.{drop}
-use Rattle.sheet.specs.Search.{firstAlike}
-use Rattle.sheet.proofs.search.first_alike.Given as given
+use Rattle.sheet.specs.Alike.{firstAlike}
+use Rattle.sheet.proofs.alike.first_alike.Given as given
 
 -- what is looked for in the whole stands first in what is left
 abbrev pub Inv-loop-i : given.InvT-loop-i

@@ -1,6 +1,6 @@
 use native.Mathlib.Omega.{arith}
 use Rattle.sheet.proofs.Searches.{found, passed, nowhere}
-use Rattle.sheet.proofs.search.first_alike.Needs as need
+use Rattle.sheet.proofs.alike.first_alike.Needs as need
 
 pub returns-then-are-alike : need.returns-then-are-alike
 returns-then-are-alike g c = record { within = c .loop-i-test .taken; first = found _ _ _ _ _ (c .loop-i-test .taken) (c .index-records-i .is) (c .loop-i .inv) (c .if-are-alike .ensures tt) }
