@@ -4,7 +4,7 @@ use mathlib.Core.List.{List, _++_}
 use lib.Chars.{codes}
 use Rattle.std.specs.Written.{decimal}
 use Rattle.refusal.specs.declared.Layer.{Layer}
-use Rattle.refusal.specs.declared.Layer.the-variants.{Frame, Record, Item, Sheet, Holder}
+use Rattle.refusal.specs.declared.Layer.the-variants.{Frame, Record, Item, Sheet, Docket, Holder}
 use Rattle.refusal.specs.declared.Refusal.{Refusal}
 
 abbrev pub layerName : Layer → List ℕ
@@ -12,6 +12,7 @@ layerName Frame = codes "frame"
 layerName Record = codes "record"
 layerName Item = codes "item"
 layerName Sheet = codes "sheet"
+layerName Docket = codes "docket"
 layerName Holder = codes "holder"
 
 -- the line of a refusal, without its line feed

@@ -4,13 +4,14 @@ ghost use Rattle.std.specs.declared.option.Option.the-variants.{Some};
 ghost use Rattle.refusal.specs.Wording.{layerName, refusalLine};
 use std::fmt;
 
-// The layer that refuses: the frame of a trace, a record in it, an item's number, the sheet, a strict object.
+// The layer that refuses: the frame of a trace, a record in it, an item's number, the sheet, the docket, a strict object.
 #[derive(Clone, Copy, PartialEq, Eq, Debug)]
 pub enum Layer {
     Frame,
     Record,
     Item,
     Sheet,
+    Docket,
     Holder,
 }
 
@@ -34,6 +35,7 @@ impl Layer {
             Layer::Record => "record",
             Layer::Item => "item",
             Layer::Sheet => "sheet",
+            Layer::Docket => "docket",
             Layer::Holder => "holder",
         }
     }
