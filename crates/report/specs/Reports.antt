@@ -10,7 +10,8 @@ use Rattle.refusal.specs.Wording.{refusalLine}
 use Rattle.item.specs.declared.item.Item.{Ghosts}
 use Rattle.item.specs.Tickets.{ticketItems}
 use Rattle.item.specs.Stamps.{stampItems}
-use Rattle.trace.specs.Faults.{frameRefusal, entryRefusal}
+use Rattle.frame.specs.Faults.{frameRefusal}
+use Rattle.trace.specs.Faults.{entryRefusal}
 use Rattle.trace.specs.Reading.{Outcome, reading}
 use Rattle.trace.specs.Reading.Outcome.{unread, refused, accepted}
 use Rattle.report.specs.Lines.{listing, closingLine}

@@ -1,5 +1,3 @@
-mod HeaderFields
-mod OrderNumbers
 mod Entries
 mod Runs
 mod Readings

@@ -17,11 +17,11 @@ use Rattle.record.specs.Bytes.{big, Bytes}
 use Rattle.record.specs.Records.{encodeRecord}
 use Rattle.record.proofs.Digits.{length-big, bytes-drop}
 use Rattle.record.proofs.Codec.{length-record}
-use Rattle.trace.specs.declared.fault.FrameFault.{FrameFault}
-use Rattle.trace.specs.declared.header.Header.{Header}
-use Rattle.trace.specs.Layout.{recordCount}
-use Rattle.trace.specs.Headers.{frameOf, headerBytes}
-use Rattle.trace.specs.Orders.{numbersOf}
+use Rattle.frame.specs.declared.fault.FrameFault.{FrameFault}
+use Rattle.frame.specs.declared.header.Header.{Header}
+use Rattle.frame.specs.Layout.{recordCount}
+use Rattle.frame.specs.Headers.{frameOf, headerBytes}
+use Rattle.frame.specs.Orders.{numbersOf}
 use Rattle.trace.specs.Contents.{Contents, contents, encode, Sound}
 use Rattle.trace.specs.declared.fault.ReadFault.{ReadFault}
 use Rattle.trace.specs.declared.read.Accepted.{Accepted}
@@ -30,8 +30,8 @@ use Rattle.std.specs.Vec.{made}
 use Rattle.trace.specs.Reading.{Run, Outcome, run, ended, framed, reading}
 use Rattle.trace.specs.Reading.Run.{going, stopped}
 use Rattle.trace.specs.Reading.Outcome.{unread, refused, accepted}
-use Rattle.trace.proofs.HeaderFields.{length-header, frame-there, frame-back}
-use Rattle.trace.proofs.OrderNumbers.{numbers-there, numbers-back, length-numbers}
+use Rattle.frame.proofs.HeaderFields.{length-header, frame-there, frame-back}
+use Rattle.frame.proofs.OrderNumbers.{numbers-there, numbers-back, length-numbers}
 use Rattle.trace.proofs.Entries.{fits-of, consistent-of, place-of, enters-of}
 use Rattle.trace.proofs.Runs.{length-joined, run-back, run-there}
 

@@ -28,7 +28,7 @@ use Rattle.record.specs.Records.{decodeRecord, encodeRecord, Fit}
 use Rattle.record.proofs.Digits.{bytes-take, bytes-drop}
 use Rattle.record.proofs.Codec.{length-record, record-there, record-back}
 use Rattle.trace.specs.declared.fault.EntryFault.{EntryFault}
-use Rattle.trace.specs.Layout.{recordAt}
+use Rattle.frame.specs.Layout.{recordAt}
 use Rattle.trace.specs.Reading.{Run, ifEntered, ifDecoded, after, taken, next, run}
 use Rattle.trace.specs.Reading.Run.{going, stopped}
 use Rattle.trace.proofs.Entries.{Enters, enters-push}

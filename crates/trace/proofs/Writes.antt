@@ -22,13 +22,13 @@ use Rattle.record.specs.Bytes.{big}
 use Rattle.record.specs.Records.{encodeRecord}
 use Rattle.record.proofs.Codec.{length-record}
 use Rattle.trace.specs.declared.fault.WriteFault.the-variants.{Kind, OrderLength, Memory}
-use Rattle.trace.specs.Headers.{headerBytes}
-use Rattle.trace.specs.Orders.{Small}
+use Rattle.frame.specs.Headers.{headerBytes}
+use Rattle.frame.specs.Orders.{Small}
 use Rattle.trace.specs.Contents.{contents, encode, AllFit}
 use Rattle.trace.specs.Reading.{reading}
 use Rattle.trace.specs.Reading.Outcome.{accepted}
 use Rattle.trace.specs.Writing.{writing}
-use Rattle.trace.proofs.HeaderFields.{length-header}
+use Rattle.frame.proofs.HeaderFields.{length-header}
 use Rattle.trace.proofs.Runs.{length-joined}
 use Rattle.trace.proofs.Entries.{consistent-again}
 use Rattle.trace.proofs.Readings.{length-encode, reading-there}

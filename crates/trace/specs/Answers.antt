@@ -9,7 +9,7 @@ use Rattle.trace.specs.declared.fault.RefusedRecord.{RefusedRecord}
 use Rattle.trace.specs.declared.fault.ReadFault.{ReadFault}
 use Rattle.trace.specs.declared.fault.ReadFault.the-variants.{Frame, Entry}
 use Rattle.trace.specs.declared.read.Accepted.{Accepted}
-use Rattle.trace.specs.Orders.{orderOf}
+use Rattle.frame.specs.Orders.{orderOf}
 use Rattle.trace.specs.Contents.{Contents, contents}
 use Rattle.trace.specs.Reading.{Run, Outcome}
 use Rattle.trace.specs.Reading.Run.{going, stopped}

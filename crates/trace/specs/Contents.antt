@@ -9,8 +9,8 @@ use Rattle.sheet.specs.declared.operation.Operation.{Operation}
 use Rattle.sheet.specs.Consistency.{Consistent}
 use Rattle.record.specs.Bytes.{big}
 use Rattle.record.specs.Records.{encodeRecord, Fit}
-use Rattle.trace.specs.Headers.{headerBytes}
-use Rattle.trace.specs.Orders.{Small}
+use Rattle.frame.specs.Headers.{headerBytes}
+use Rattle.frame.specs.Orders.{Small}
 
 pub record Contents (I : Type 0) : Type 0 where
   pub kind : ℕ

@@ -1,13 +1,11 @@
--- What each fault of the frame layer says, and what the faults below say through it.
+-- What the faults of reading, writing and copying say.
 use Prim.Native.Nat.{ℕ}
 use Rattle.std.specs.declared.option.Option.{Option}
 use Rattle.std.specs.declared.option.Option.the-variants.{Some, None}
-use Rattle.refusal.specs.declared.Layer.the-variants as layer
 use Rattle.refusal.specs.declared.Refusal.{Refusal}
 use Rattle.sheet.specs.Faults.{sheetRefusal}
 use Rattle.record.specs.Faults.{recordRefusal}
-use Rattle.trace.specs.declared.fault.FrameFault.{FrameFault}
-use Rattle.trace.specs.declared.fault.FrameFault.the-variants.{Short, Version, Kind, ItemType, SpareBit, Count, Length}
+use Rattle.frame.specs.Faults.{ofFrame, frameRefusal}
 use Rattle.trace.specs.declared.fault.EntryFault.{EntryFault}
 use Rattle.trace.specs.declared.fault.EntryFault.the-variants.{Record, Sheet}
 use Rattle.trace.specs.declared.fault.ReadFault.{ReadFault}
@@ -16,19 +14,6 @@ use Rattle.trace.specs.declared.fault.WriteFault.{WriteFault}
 use Rattle.trace.specs.declared.fault.WriteFault.the-variants as writing
 use Rattle.trace.specs.declared.fault.CopyFault.{CopyFault}
 use Rattle.trace.specs.declared.fault.CopyFault.the-variants.{Reading, Writing, NoMemory}
-
--- a refusal of the frame has no place and no detail
-abbrev pub ofFrame : ℕ → Refusal
-ofFrame number = record { layer = layer.Frame; number = number; place = 0; detail = 0 }
-
-abbrev pub frameRefusal : FrameFault → Refusal
-frameRefusal Short = ofFrame 1
-frameRefusal Version = ofFrame 2
-frameRefusal Kind = ofFrame 3
-frameRefusal ItemType = ofFrame 4
-frameRefusal SpareBit = ofFrame 5
-frameRefusal Count = ofFrame 6
-frameRefusal Length = ofFrame 7
 
 abbrev pub entryRefusal : ℕ → EntryFault → Refusal
 entryRefusal place (Record fault) = recordRefusal place fault

@@ -1,6 +1,3 @@
-pub mod Layout
-pub mod Headers
-pub mod Orders
 pub mod Faults
 pub mod Contents
 pub mod Reading

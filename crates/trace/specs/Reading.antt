@@ -10,13 +10,13 @@ use Rattle.sheet.specs.declared.fault.SheetFault.{SheetFault}
 use Rattle.sheet.specs.Entering.{enterAnswer}
 use Rattle.record.specs.declared.fault.RecordFault.{RecordFault}
 use Rattle.record.specs.Records.{decodeRecord}
-use Rattle.trace.specs.declared.fault.FrameFault.{FrameFault}
+use Rattle.frame.specs.declared.fault.FrameFault.{FrameFault}
 use Rattle.trace.specs.declared.fault.EntryFault.{EntryFault}
 use Rattle.trace.specs.declared.fault.EntryFault.the-variants.{Record, Sheet}
-use Rattle.trace.specs.declared.header.Header.{Header}
-use Rattle.trace.specs.Layout.{recordAt}
-use Rattle.trace.specs.Headers.{frameOf}
-use Rattle.trace.specs.Orders.{numbersOf}
+use Rattle.frame.specs.declared.header.Header.{Header}
+use Rattle.frame.specs.Layout.{recordAt}
+use Rattle.frame.specs.Headers.{frameOf}
+use Rattle.frame.specs.Orders.{numbersOf}
 use Rattle.trace.specs.Contents.{Contents, contents}
 
 -- how far the records are taken: all so far, with the operations entered, or stopped at a place, with those entered before

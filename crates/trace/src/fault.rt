@@ -2,31 +2,13 @@ ghost use mathlib.Core.Path.{_≡_};
 ghost use Rattle.trace.specs.declared.fault.EntryFault.the-variants.{Record, Sheet};
 ghost use Rattle.trace.specs.declared.fault.ReadFault.the-variants.{Frame, Entry};
 ghost use Rattle.trace.specs.declared.fault.CopyFault.the-variants.{Reading, Writing, NoMemory};
-ghost use Rattle.trace.specs.Faults.{frameRefusal, entryRefusal, readRefusal, writeRefusal, copyRefusal};
+ghost use Rattle.trace.specs.Faults.{entryRefusal, readRefusal, writeRefusal, copyRefusal};
+use frame::fault::FrameFault;
 use record::fault::RecordFault;
 use refusal::Layer;
 use refusal::Refusal;
 use sheet::fault::SheetFault;
 use std::alloc::AllocError;
-
-// Why a header is not that of a trace.
-#[derive(Clone, Copy)]
-pub enum FrameFault {
-    // under 8 bytes
-    Short,
-    // the version is not 1
-    Version,
-    // the kind is above 2
-    Kind,
-    // the item type is not the reader's
-    ItemType,
-    // a spare bit is set
-    SpareBit,
-    // more than 1,024 operations
-    Count,
-    // the length is not 8 + 26 for each operation
-    Length,
-}
 
 // Why a record's operation is not entered.
 #[derive(Clone, Copy)]
@@ -66,28 +48,6 @@ pub enum CopyFault {
     Reading(ReadFault),
     Writing(WriteFault),
     NoMemory,
-}
-
-impl FrameFault {
-    pub fn refusal(&self) -> Refusal
-        ensures { λ r. ⌜ r ≡ frameRefusal (now (self .entry)) ⌝ }
-    {
-        let number = match self {
-            FrameFault::Short => 1,
-            FrameFault::Version => 2,
-            FrameFault::Kind => 3,
-            FrameFault::ItemType => 4,
-            FrameFault::SpareBit => 5,
-            FrameFault::Count => 6,
-            FrameFault::Length => 7,
-        };
-        Refusal {
-            layer: Layer::Frame,
-            number,
-            place: 0,
-            detail: 0,
-        }
-    }
 }
 
 impl EntryFault {

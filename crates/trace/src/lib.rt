@@ -1,8 +1,5 @@
-// The trace: a header, a record for each operation, and the order.
+// The trace: reading it onto a sheet, writing it, and both at once.
 pub mod copy;
 pub mod fault;
-pub mod header;
-pub mod order;
 pub mod read;
-pub mod records;
 pub mod write;

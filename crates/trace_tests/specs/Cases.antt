@@ -6,7 +6,8 @@ use Rattle.refusal.specs.declared.Refusal.{Refusal}
 use Rattle.item.specs.declared.ticket.Ticket.{Ticket}
 use Rattle.sheet.specs.declared.operation.Method.the-variants.{Add}
 use Rattle.sheet.specs.declared.operation.Operation.{Operation}
-use Rattle.trace.specs.Faults.{frameRefusal, entryRefusal}
+use Rattle.frame.specs.Faults.{frameRefusal}
+use Rattle.trace.specs.Faults.{entryRefusal}
 use Rattle.trace.specs.Reading.{Outcome}
 use Rattle.trace.specs.Reading.Outcome.{unread, refused, accepted}
 

@@ -4,7 +4,7 @@ use lib.ListN.{length, take}
 use Rattle.std.proofs.shelf.Results.{err-from-errBy}
 use Rattle.std.specs.declared.result.Result.the-variants.{Ok, Err}
 use Rattle.sheet.specs.Sheets.{entered, room}
-use Rattle.trace.specs.Orders.{orderOf}
+use Rattle.frame.specs.Orders.{orderOf}
 use Rattle.trace.specs.Contents.{contents}
 use Rattle.trace.specs.Reading.{reading}
 use Rattle.trace.specs.Reading.Outcome.{accepted}

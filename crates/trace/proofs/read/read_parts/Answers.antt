@@ -7,11 +7,11 @@ use lib.ListN.{length}
 use Rattle.std.specs.declared.result.Result.the-variants.{Ok}
 use Rattle.sheet.specs.Sheets.{entered, memory, room, filled}
 use Rattle.sheet.proofs.Fills.{filled-same}
-use Rattle.trace.specs.Orders.{numbersOf}
+use Rattle.frame.specs.Orders.{numbersOf}
 use Rattle.trace.specs.Reading.Run.{going, stopped}
 use Rattle.trace.specs.Reading.Outcome.{refused}
 use Rattle.trace.specs.Answers.{shown, answered, held}
-use Rattle.trace.proofs.OrderNumbers.{order-after}
+use Rattle.frame.proofs.OrderNumbers.{order-after}
 use Rattle.trace.proofs.Readings.{accepting}
 use Rattle.trace.proofs.read.read_parts.Needs as need
 

@@ -4,7 +4,7 @@ use denote.Ref.{now}
 use lib.ListN.{length}
 use Rattle.sheet.specs.Sheets.{entered, memory, room, filled}
 use Rattle.sheet.proofs.Fills.{filled-same, filled-twice}
-use Rattle.trace.specs.Layout.{recordCount, recordAt}
+use Rattle.frame.specs.Layout.{recordCount, recordAt}
 use Rattle.trace.specs.Reading.{run}
 use Rattle.trace.specs.Reading.Run.{going}
 use Rattle.trace.proofs.Runs.{turn, turned-away, handed-out, none-left}

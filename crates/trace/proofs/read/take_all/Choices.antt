@@ -2,7 +2,7 @@ use Prim.Native.Nat.{_-_, _≤_}
 use mathlib.Core.Path.{_≡_}
 use denote.Ref.{now, name}
 use Rattle.sheet.specs.Sheets.{entered, memory, room, filled}
-use Rattle.trace.specs.Layout.{recordCount}
+use Rattle.frame.specs.Layout.{recordCount}
 use Rattle.trace.specs.Reading.{run}
 use Rattle.trace.specs.Reading.Run.{going}
 use Rattle.trace.proofs.read.take_all.Given as given

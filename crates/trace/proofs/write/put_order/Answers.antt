@@ -8,7 +8,7 @@ use borrow.Author.Needs.{needs}
 use Rattle.std.proofs.shelf.Lists.{take-more, getD-default}
 use Rattle.record.specs.Bytes.{big}
 use Rattle.record.proofs.Digits.{length-big, big-two}
-use Rattle.trace.specs.Orders.{Small}
+use Rattle.frame.specs.Orders.{Small}
 use Rattle.trace.proofs.Writes.{laid, laid-all, laid-none, small-push}
 use Rattle.trace.proofs.write.put_order.Needs as need
 

@@ -4,7 +4,7 @@ use mathlib.Core.List.{_++_}
 use lib.ListN.{take, drop}
 use Rattle.std.specs.shelf.Lists.{joined}
 use Rattle.record.specs.Bytes.{big}
-use Rattle.trace.specs.Orders.{Small}
+use Rattle.frame.specs.Orders.{Small}
 use Rattle.trace.proofs.write.put_order.Given as given
 
 abbrev pub Inv-loop-i : given.InvT-loop-i

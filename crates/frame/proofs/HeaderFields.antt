@@ -13,10 +13,10 @@ use Rattle.std.specs.declared.result.Result.the-variants.{Ok, Err}
 use Rattle.refusal.proofs.Checks.{passed, pass}
 use Rattle.record.specs.Bytes.{big, Bytes}
 use Rattle.record.proofs.Digits.{length-big, big-number, bytes-take, bytes-drop, field, with-four}
-use Rattle.trace.specs.declared.fault.FrameFault.{FrameFault}
-use Rattle.trace.specs.declared.fault.FrameFault.the-variants.{Short, Version, Kind, ItemType, SpareBit, Count, Length}
-use Rattle.trace.specs.declared.header.Header.{Header}
-use Rattle.trace.specs.Headers.{headerOf, frameOf, headerBytes}
+use Rattle.frame.specs.declared.fault.FrameFault.{FrameFault}
+use Rattle.frame.specs.declared.fault.FrameFault.the-variants.{Short, Version, Kind, ItemType, SpareBit, Count, Length}
+use Rattle.frame.specs.declared.header.Header.{Header}
+use Rattle.frame.specs.Headers.{headerOf, frameOf, headerBytes}
 
 pub length-header : (code kind n k : ℕ) → length (headerBytes code kind n k) ≡ 8
 length-header code kind n k = simp (length-append, length-big)

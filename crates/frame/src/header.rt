@@ -2,7 +2,7 @@ ghost use mathlib.Core.Path.{_≡_};
 ghost use Prim.Native.Nat.{ℕ, _+_, _*_, _≤_};
 ghost use lib.ListN.{length};
 ghost use Rattle.std.specs.Vec.{made};
-ghost use Rattle.trace.specs.Headers.{frameOf};
+ghost use Rattle.frame.specs.Headers.{frameOf};
 use crate::fault::FrameFault;
 use record::bytes::number_at;
 

@@ -4,7 +4,7 @@ use mathlib.Core.List.{List, [], _∷_}
 use lib.ListN.{length, take, drop}
 use denote.Ref.{now}
 use Rattle.std.specs.shelf.Digits.{number}
-use Rattle.trace.specs.declared.order.Order.{Order}
+use Rattle.frame.specs.declared.order.Order.{Order}
 
 -- the first n numbers that the bytes say
 abbrev pub numbersOf : ℕ → List ℕ → List ℕ

@@ -3,7 +3,7 @@ ghost use lib.ListN.{length};
 ghost use Rattle.std.specs.Of.Vec.{vec-items};
 ghost use Rattle.std.specs.Vec.{made};
 ghost use Rattle.std.specs.shelf.Maps.{nth};
-ghost use Rattle.trace.specs.Orders.{orderOf};
+ghost use Rattle.frame.specs.Orders.{orderOf};
 use record::bytes::number_at;
 use std::alloc::AllocError;
 use std::alloc::Global;

@@ -4,7 +4,7 @@ ghost use lib.Dec.{ltb};
 ghost use Rattle.std.specs.Options.{mapped};
 ghost use Rattle.std.specs.declared.option.Option.the-variants.{Some, None};
 ghost use denote.Ref.{now as behind};
-ghost use Rattle.trace.specs.Layout.{recordCount, recordAt};
+ghost use Rattle.frame.specs.Layout.{recordCount, recordAt};
 
 // The bytes of a trace, from which it hands out its records.
 #[derive(Clone, Copy)]

@@ -5,9 +5,9 @@ use native.Mathlib.Omega.{arith}
 use lib.ListN.{length, take, getD}
 use lib.Seq.{take-all}
 use Rattle.std.proofs.shelf.Lists.{take-more}
-use Rattle.trace.specs.Orders.{orderOf}
-use Rattle.trace.proofs.OrderNumbers.{length-numbers, number-at-place}
-use Rattle.trace.proofs.order.Order.numbers.Needs as need
+use Rattle.frame.specs.Orders.{orderOf}
+use Rattle.frame.proofs.OrderNumbers.{length-numbers, number-at-place}
+use Rattle.frame.proofs.order.Order.numbers.Needs as need
 
 pub mul-i : need.mul-i
 mul-i c =

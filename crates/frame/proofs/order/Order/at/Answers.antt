@@ -4,9 +4,9 @@ use native.Mathlib.Omega.{arith}
 use lib.ListN.{length}
 use Rattle.std.proofs.shelf.Maps.{nth-past}
 use Rattle.std.specs.declared.option.Option.the-variants.{Some}
-use Rattle.trace.proofs.OrderNumbers.{length-numbers, nth-number}
-use Rattle.trace.specs.Orders.{orderOf}
-use Rattle.trace.proofs.order.Order.at.Needs as need
+use Rattle.frame.proofs.OrderNumbers.{length-numbers, nth-number}
+use Rattle.frame.specs.Orders.{orderOf}
+use Rattle.frame.proofs.order.Order.at.Needs as need
 
 pub mul-i : need.mul-i
 mul-i c =

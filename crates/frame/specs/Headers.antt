@@ -8,9 +8,9 @@ use Rattle.std.specs.shelf.Digits.{number}
 use Rattle.std.specs.declared.result.Result.{Result}
 use Rattle.std.specs.declared.result.Result.the-variants.{Ok, Err}
 use Rattle.record.specs.Bytes.{big}
-use Rattle.trace.specs.declared.fault.FrameFault.{FrameFault}
-use Rattle.trace.specs.declared.fault.FrameFault.the-variants.{Short, Version, Kind, ItemType, SpareBit, Count, Length}
-use Rattle.trace.specs.declared.header.Header.{Header}
+use Rattle.frame.specs.declared.fault.FrameFault.{FrameFault}
+use Rattle.frame.specs.declared.fault.FrameFault.the-variants.{Short, Version, Kind, ItemType, SpareBit, Count, Length}
+use Rattle.frame.specs.declared.header.Header.{Header}
 
 -- the header of four words of 16 bits, of a trace of that many bytes
 abbrev pub headerOf : ℕ → ℕ → ℕ → ℕ → ℕ → ℕ → Result Header FrameFault

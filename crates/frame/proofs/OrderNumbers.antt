@@ -13,7 +13,7 @@ use Rattle.std.specs.shelf.Maps.{nth}
 use Rattle.std.specs.declared.option.Option.the-variants.{Some}
 use Rattle.record.specs.Bytes.{big, Bytes}
 use Rattle.record.proofs.Digits.{length-big, number-big, big-number, bytes-take, bytes-drop}
-use Rattle.trace.specs.Orders.{numbersOf, Small}
+use Rattle.frame.specs.Orders.{numbersOf, Small}
 
 pub length-numbers : (n : ℕ) (bs : List ℕ) → length (numbersOf n bs) ≡ n
 length-numbers zero bs = refl
