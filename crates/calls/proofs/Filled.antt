@@ -29,7 +29,7 @@ use Rattle.order.proofs.Splits.{step-by-step}
 use Rattle.order.proofs.Stretches.{shortest, only}
 use Rattle.calls.specs.Rules.{Buffers, numbersFrom, largestOf, over, tooShort, latenessesOf, certificateOf, written}
 use Rattle.calls.specs.Meanings.{Costs, Kept, Largest, Granted}
-use Rattle.calls.proofs.Steps.{length-ranks, ranks-append}
+use Rattle.order.proofs.Growing.{length-ranks, ranks-append}
 use Rattle.calls.proofs.Grants.{Long, length-values, sums}
 
 -- the largest of a list and its first place

@@ -27,7 +27,7 @@ use Rattle.order.proofs.Whole.{placed-of-true, true-of-placed, placed-known, pl
 use Rattle.order.proofs.AddUp.{add-up}
 use Rattle.calls.specs.Rules.{Buffers, numbersFrom, unplaced, missing, tooShort, unlessMissing, latenessesOf, certificateOf, certifyAnswer, written}
 use Rattle.calls.proofs.Lowest.{Lowest, lowest-is, same-lowest}
-use Rattle.calls.proofs.Steps.{length-ranks}
+use Rattle.order.proofs.Growing.{length-ranks}
 
 -- ---- the values of f at i, .., i + n - 1, and their sum
 pub length-values : (f : ℕ → ℕ) (i n : ℕ) → length (map f (numbersFrom i n)) ≡ n

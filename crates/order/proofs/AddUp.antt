@@ -26,7 +26,7 @@ rank-le TakeOfNone L = omega arith
 rank-le FoundEmpty L = omega arith
 
 module _ (seat : SeatRule) (x : ℕ) where
-  after-times : (d : Deed) (L : List ℕ) (b : ℕ) → times b (afterStep seat x d L) ≤ cond (eqb b x) 1 0 + times b L
+  pub after-times : (d : Deed) (L : List ℕ) (b : ℕ) → times b (afterStep seat x d L) ≤ cond (eqb b x) 1 0 + times b L
   after-times Add L b = omega (arith, times-insert b x (seat L x) L)
   after-times (Take a) L b = omega (arith, times-without b a L)
   after-times TakeOfNone L b = omega arith
