@@ -18,7 +18,7 @@ use Rattle.order.specs.Wordings.{InTimeOrder}
 use Rattle.calls.specs.declared.fault.DocketFault.{DocketFault}
 use Rattle.calls.specs.declared.fault.DocketFault.the-variants.{AboveBound}
 use Rattle.calls.specs.declared.certificate.Certificate.{Certificate}
-use Rattle.calls.specs.Faults.{refusalCode}
+use Rattle.calls.specs.Faults.{codeOf}
 use Rattle.calls.specs.Rules.{placeAnswer, Buffers, tooShort, certifyAnswer, written}
 use Rattle.calls.specs.Calls.{Call, run, Answer, to-run, answerTo, answersTo, placedBy}
 use Rattle.calls.specs.Meanings.{Costs, Placing, Granted}
@@ -46,7 +46,7 @@ module _ (seat : SeatRule) (ops : List Paired) (k : ℕ) (calls : List Call) whe
   -- with nothing placed, a run of a true order places it whole
   abbrev pub TrueOrdersRunWhole : Type 0
   TrueOrdersRunWhole = steps ≡ [] → (o : List ℕ) → TrueOrder seat ops k o
-      → (answerTo seat ops k steps (run o) ≡ to-run (length ops) (refusalCode None)) × (placedBy seat ops k [] (calls ++ (run o ∷ [])) ≡ o)
+      → (answerTo seat ops k steps (run o) ≡ to-run (length ops) (codeOf None)) × (placedBy seat ops k [] (calls ++ (run o ∷ [])) ≡ o)
 
   -- a rank error that is answered, or named by a refusal, is the length of a shortest stretch
   abbrev pub AnsweredRankErrorsAreShortestStretches : Type 0
