@@ -1,9 +1,8 @@
 -- The answers of the rules make a session, and nothing else does. Assumes nothing.
 use mathlib.Core.Path.{_≡_, refl, sym, ap, subst, _∙_}
-use mathlib.Core.Bool.{true, false, cond}
 use mathlib.Core.List.{List, [], _∷_, _++_}
 use mathlib.Core.Logic.{⊎-elim}
-use Prim.Native.Nat.{ℕ, _-_, _<_, _≤_}
+use Prim.Native.Nat.{ℕ, _-_}
 use native.Mathlib.Nat.{zero-add}
 use native.Mathlib.Omega.{arith}
 use lib.Dec.{eqb}
@@ -18,7 +17,7 @@ use Rattle.order.specs.declared.operation.Paired.{Paired}
 use Rattle.calls.specs.declared.fault.DocketFault.{DocketFault}
 use Rattle.calls.specs.declared.fault.DocketFault.the-variants.{NothingToLift, StepsMissing, BufferTooShort}
 use Rattle.calls.specs.declared.certificate.Certificate.{Certificate}
-use Rattle.order.specs.Steps.{SeatRule, operation, givingAfter}
+use Rattle.order.specs.Steps.{SeatRule}
 use Rattle.order.specs.Orders.{Placed}
 use Rattle.order.proofs.Whole.{true-of-placed}
 use Rattle.calls.specs.Faults.{codeOf}

@@ -1,11 +1,11 @@
 -- What the steps u and then v come to, and one more step. Assumes nothing.
-use mathlib.Core.Path.{_≡_, refl, ap, _∙_}
+use mathlib.Core.Path.{_≡_, refl, ap}
 use mathlib.Core.List.{List, [], _∷_, _++_}
 use Prim.Native.Nat.{ℕ, suc, _+_}
 use native.Mathlib.Omega.{arith}
 use lib.ListN.{length}
 use Rattle.order.specs.declared.operation.Paired.{Paired}
-use Rattle.order.specs.Steps.{SeatRule, operation, rankError, afterStep, passesOver, givingFrom, rankErrorsFrom, latenessFrom, addsIn}
+use Rattle.order.specs.Steps.{SeatRule, operation, rankError, afterStep, givingFrom, rankErrorsFrom, latenessFrom, addsIn}
 use Rattle.order.specs.Laws.{OneMore}
 
 pub adds-append : (ops : List Paired) (u v : List ℕ) → addsIn ops (u ++ v) ≡ addsIn ops u + addsIn ops v

@@ -12,7 +12,7 @@ use Rattle.order.specs.Orders.{Placed}
 use Rattle.order.proofs.AddUp.{add-up}
 use Rattle.order.proofs.InTime.{placed-in-time-order}
 use Rattle.calls.specs.Faults.{codeOf}
-use Rattle.calls.specs.Rules.{Run, runOf, certificateOf, written}
+use Rattle.calls.specs.Rules.{Run, runOf, written}
 use Rattle.calls.specs.Calls.{run, to-run, answerTo, answersTo, placedBy}
 use Rattle.calls.specs.Meanings.{Granted}
 use Rattle.calls.proofs.Judged.{means, answer-is}
