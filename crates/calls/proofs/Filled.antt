@@ -1,6 +1,5 @@
 -- A certificate says and writes what it is granted for, and nothing else does. Assumes nothing.
 use mathlib.Core.Path.{_≡_, refl, sym, ap, subst, _∙_}
-use mathlib.Core.Bool.{false}
 use mathlib.Core.List.{List, [], _∷_, _++_, map}
 use mathlib.Core.Logic.{⊎-elim}
 use Prim.Native.Nat.{ℕ, zero, suc, _+_, _<_, _≤_}
@@ -11,25 +10,23 @@ use lib.ListN.{length, getD, take, drop, length-append, length-drop, take-append
 use lib.Seq.{length-take-le, take-at, drop-at, getD-at, getD-take, ext-getD, split-at}
 use Rattle.std.specs.declared.result.Result.the-variants.{Ok}
 use Rattle.std.specs.shelf.Lists.{Each}
-use Rattle.std.proofs.shelf.Tests.{cond-both, eqb-true, eqb-false, cases-order, cases-lt}
+use Rattle.std.proofs.shelf.Tests.{cond-both, eqb-false, cases-order, cases-lt}
 use Rattle.giving.specs.Lists.{place}
 use Rattle.giving.proofs.Counts.{times-at}
 use Rattle.giving.proofs.Places.{place-some, place-there}
-use Rattle.order.specs.declared.operation.Deed.{Deed}
 use Rattle.order.specs.declared.operation.Paired.{Paired}
 use Rattle.calls.specs.declared.certificate.Certificate.{Certificate}
 use Rattle.order.specs.Steps.{SeatRule, operation, rankError, rankErrors, rankErrorsFrom, afterStep, givingAfter, lateness, passingsOver, sum}
 use Rattle.order.specs.Times.{Instants, earliest}
-use Rattle.order.specs.Orders.{Acceptable, Placed, TrueOrder}
-use Rattle.order.specs.Strict.{ShortestStretch}
+use Rattle.order.specs.Orders.{Placed, TrueOrder}
 use Rattle.order.proofs.AddUp.{add-up}
 use Rattle.order.proofs.Whole.{placed-of-true}
 use Rattle.order.proofs.Earliest.{earliest-admits, earliest-below, length-earliest}
 use Rattle.order.proofs.Splits.{step-by-step}
 use Rattle.order.proofs.Stretches.{shortest, only}
-use Rattle.calls.specs.Rules.{Buffers, numbersFrom, largestOf, over, tooShort, latenessesOf, certificateOf, written}
+use Rattle.calls.specs.Rules.{Buffers, numbersFrom, largestOf, over, latenessesOf, certificateOf, written}
 use Rattle.calls.specs.Meanings.{Costs, Kept, Largest, Granted}
-use Rattle.calls.proofs.Steps.{length-ranks, ranks-append}
+use Rattle.order.proofs.Growing.{length-ranks, ranks-append}
 use Rattle.calls.proofs.Grants.{Long, length-values, sums}
 
 -- the largest of a list and its first place
@@ -119,9 +116,9 @@ module _ (seat : SeatRule) (ops : List Paired) (k : ℕ) where
       ∙ getD-at (rankErrors seat ops u) (rankError (operation ops x .deed) L) (rankErrorsFrom seat ops (afterStep seat x (operation ops x .deed) L) v) 0 (length u) (length-ranks seat ops u [])
 
   -- the rank error of each placed step is that of a shortest stretch
-  pub costs-at : (p u v : List ℕ) (x : ℕ) → Placed seat ops k p → p ≡ u ++ (x ∷ v) → Costs seat ops k u x (getD (rankErrors seat ops p) (length u) 0)
+  pub costs-at : (p u v : List ℕ) (x : ℕ) → Placed seat ops k p → p ≡ u ++ (x ∷ v) → Costs seat ops u x (getD (rankErrors seat ops p) (length u) 0)
   costs-at p u v x h e =
-      subst (Costs seat ops k u x) (sym (rank-at p u v x e)) (shortest (operation ops x .deed) (givingAfter seat ops u) (step-by-step seat ops k p h u x v e .ranked))
+      subst (Costs seat ops u x) (sym (rank-at p u v x e)) (shortest (operation ops x .deed) (givingAfter seat ops u) (step-by-step seat ops k p h u x v e .ranked))
 
   before : (p u v : List ℕ) (x : ℕ) → p ≡ u ++ (x ∷ v) → length u < length p
   before p u v x e = omega (arith, ap length e, length-append u (x ∷ v))
@@ -145,7 +142,7 @@ module _ (seat : SeatRule) (ops : List Paired) (k : ℕ) where
         order = t;
         room = room;
         rank-errors = λ u v x e.
-            subst (Costs seat ops k u x) (sym (List·getD-append R (drop (length R) (b .ranks)) 0 (length u) (omega (arith, before p u v x e, nR, g .1)))) (costs-at p u v x (g .0) e);
+            subst (Costs seat ops u x) (sym (List·getD-append R (drop (length R) (b .ranks)) 0 (length u) (omega (arith, before p u v x e, nR, g .1)))) (costs-at p u v x (g .0) e);
         instants = subst (Instants ops p) (sym tE) (earliest-admits ops 0 0 p (t .timed .instants .0) (omega arith) (t .timed .instants .1));
         least = λ ts i. subst (λ (l : List ℕ). Each _≤_ l ts) (sym tE) (earliest-below ops 0 0 p ts (omega arith) i);
         latenesses = λ a l. List·getD-append S (drop (length S) (b .latenesses)) 0 a (omega (arith, nS)) ∙ (getD-values f 0 n a l ∙ ap f (zero-add a));

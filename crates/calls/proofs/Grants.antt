@@ -1,12 +1,12 @@
 -- Certificates are granted for true orders, and add up. Assumes nothing.
-use mathlib.Core.Path.{_≡_, refl, sym, ap, subst, _∙_}
+use mathlib.Core.Path.{_≡_, refl, sym, ap, _∙_}
 use mathlib.Core.Bool.{Bool, true, false, cond, _||_}
-use mathlib.Core.List.{List, [], _∷_, _++_, map}
+use mathlib.Core.List.{List, [], map}
 use mathlib.Core.Logic.{_⊎_, inl, inr, ⊎-elim}
 use Prim.Native.Nat.{ℕ, zero, suc, _+_, _<_, _≤_}
 use native.Mathlib.Nat.{add-zero, zero-add}
 use native.Mathlib.Omega.{arith}
-use lib.Dec.{eqb, ltb}
+use lib.Dec.{ltb}
 use lib.ListN.{length, take, drop}
 use lib.Seq.{take-at}
 use Rattle.std.specs.declared.option.Option.{Option}
@@ -14,11 +14,11 @@ use Rattle.std.specs.declared.option.Option.the-variants.{Some, None}
 use Rattle.std.specs.declared.result.Result.{Result}
 use Rattle.std.specs.declared.result.Result.the-variants.{Ok, Err}
 use Rattle.std.specs.Results.{isOk}
-use Rattle.std.proofs.shelf.Tests.{cond-both, cond-true, cond-false, eqb-true, eqb-false, ltb-true, ltb-false, lt-ltb, le-ltb, or-from, or-cases, or-parts, or-left, or-right, both-ways}
+use Rattle.std.proofs.shelf.Tests.{cond-both, cond-false, eqb-true, eqb-false, ltb-true, ltb-false, lt-ltb, le-ltb, or-from, or-cases, or-parts, or-left, or-right, both-ways}
 use Rattle.giving.specs.Lists.{times}
 use Rattle.order.specs.declared.operation.Paired.{Paired}
 use Rattle.calls.specs.declared.fault.DocketFault.{DocketFault}
-use Rattle.calls.specs.declared.fault.DocketFault.the-variants.{StepsMissing, BufferTooShort}
+use Rattle.calls.specs.declared.fault.DocketFault.the-variants.{BufferTooShort}
 use Rattle.calls.specs.declared.certificate.Certificate.{Certificate}
 use Rattle.order.specs.Steps.{SeatRule, rankErrors, sum, sumBelow, lateness, passingsOver}
 use Rattle.order.specs.Orders.{Placed, TrueOrder}
@@ -27,7 +27,7 @@ use Rattle.order.proofs.Whole.{placed-of-true, true-of-placed, placed-known, pl
 use Rattle.order.proofs.AddUp.{add-up}
 use Rattle.calls.specs.Rules.{Buffers, numbersFrom, unplaced, missing, tooShort, unlessMissing, latenessesOf, certificateOf, certifyAnswer, written}
 use Rattle.calls.proofs.Lowest.{Lowest, lowest-is, same-lowest}
-use Rattle.calls.proofs.Steps.{length-ranks}
+use Rattle.order.proofs.Growing.{length-ranks}
 
 -- ---- the values of f at i, .., i + n - 1, and their sum
 pub length-values : (f : ℕ → ℕ) (i n : ℕ) → length (map f (numbersFrom i n)) ≡ n

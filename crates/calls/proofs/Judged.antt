@@ -3,9 +3,9 @@ use mathlib.Core.Path.{_≡_, refl, sym, ap, subst, _∙_}
 use mathlib.Core.Bool.{Bool, true, false, cond, not, _&&_}
 use mathlib.Core.List.{List}
 use mathlib.Core.Logic.{⊎-elim}
-use Prim.Native.Nat.{ℕ, _<_, _≤_}
+use Prim.Native.Nat.{ℕ, _<_}
 use native.Mathlib.Omega.{arith}
-use lib.Dec.{eqb, ltb, leb}
+use lib.Dec.{ltb, leb}
 use lib.ListN.{length}
 use Rattle.std.specs.declared.option.Option.{Option}
 use Rattle.std.specs.declared.option.Option.the-variants.{Some, None}
@@ -20,7 +20,6 @@ use Rattle.calls.specs.declared.fault.DocketFault.the-variants.{NoSuchOperatio
 use Rattle.order.specs.Steps.{SeatRule, operation, hasRank, rankError, givingAfter}
 use Rattle.order.specs.Times.{precedes}
 use Rattle.order.specs.Orders.{Acceptable}
-use Rattle.order.specs.Strict.{Stretch, ShortestStretch}
 use Rattle.order.proofs.Stretches.{shortest, has-one, only}
 use Rattle.calls.specs.Rules.{unplaced, waitsFor, unlessEarly, placeAnswer}
 use Rattle.calls.specs.Meanings.{New, Waits, Free, Placing}

@@ -1,9 +1,8 @@
 -- The answers of the rules make a session, and nothing else does. Assumes nothing.
 use mathlib.Core.Path.{_≡_, refl, sym, ap, subst, _∙_}
-use mathlib.Core.Bool.{true, false, cond}
 use mathlib.Core.List.{List, [], _∷_, _++_}
 use mathlib.Core.Logic.{⊎-elim}
-use Prim.Native.Nat.{ℕ, _-_, _<_, _≤_}
+use Prim.Native.Nat.{ℕ, _-_}
 use native.Mathlib.Nat.{zero-add}
 use native.Mathlib.Omega.{arith}
 use lib.Dec.{eqb}
@@ -18,10 +17,10 @@ use Rattle.order.specs.declared.operation.Paired.{Paired}
 use Rattle.calls.specs.declared.fault.DocketFault.{DocketFault}
 use Rattle.calls.specs.declared.fault.DocketFault.the-variants.{NothingToLift, StepsMissing, BufferTooShort}
 use Rattle.calls.specs.declared.certificate.Certificate.{Certificate}
-use Rattle.order.specs.Steps.{SeatRule, operation, givingAfter}
+use Rattle.order.specs.Steps.{SeatRule}
 use Rattle.order.specs.Orders.{Placed}
 use Rattle.order.proofs.Whole.{true-of-placed}
-use Rattle.calls.specs.Faults.{refusalCode}
+use Rattle.calls.specs.Faults.{codeOf}
 use Rattle.calls.specs.Rules.{unplaced, placeAnswer, joined, Run, runOf, liftAnswer, withoutLast, Buffers, missing, tooShort, unlessMissing, certificateOf, certifyAnswer, written}
 use Rattle.calls.specs.Calls.{Call, place, run, lift, certify, Answer, to-place, to-run, to-lift, to-certify, answerTo, leftBy, placedBy, answersTo}
 use Rattle.calls.specs.Meanings.{Placing}
@@ -49,10 +48,10 @@ module _ (seat : SeatRule) (ops : List Paired) (k : ℕ) where
         elim (placeAnswer seat ops k p x) as (λ a. Placing seat ops k p x a → Happens seat ops k p (place x) (to-place a) (joined p x a))
         [ Ok r ↦ λ g. placed x r g | Err e ↦ λ g. refused x e g ] (judged seat ops k p x)
     happens h (run xs) =
-        let F : Run → Type 0 = λ R. Happens seat ops k p (run xs) (to-run (R .new) (refusalCode (R .stopped))) (R .steps) in
+        let F : Run → Type 0 = λ R. Happens seat ops k p (run xs) (to-run (R .new) (codeOf (R .stopped))) (R .steps) in
         ⊎-elim
         (λ g. subst F (sym (g .1)) (rw zero-add (ran xs (g .0))))
-        (λ g. subst F (sym (g .7)) (rw zero-add (subst (λ (l : List ℕ). Happens seat ops k p (run l) (to-run (length (g .0)) (refusalCode (Some (g .3)))) (p ++ g .0)) (sym (g .4))
+        (λ g. subst F (sym (g .7)) (rw zero-add (subst (λ (l : List ℕ). Happens seat ops k p (run l) (to-run (length (g .0)) (codeOf (Some (g .3)))) (p ++ g .0)) (sym (g .4))
         (ran-until (g .0) (g .1) (g .2) (g .3) (g .5) (g .6))))) (outcome seat ops k xs p 0)
     happens h lift = lift-happens p
     happens h (certify b) =
@@ -76,8 +75,8 @@ module _ (seat : SeatRule) (ops : List Paired) (k : ℕ) where
         let e : a ≡ placeAnswer seat ops k p x = sym (answer-is seat ops k p x a h) in
         (ap to-place e, ap (joined p x) e)
 
-    only-run : (xs q : List ℕ) (n : ℕ) (s : Option DocketFault) → runOf seat ops k p 0 xs ≡ record { steps = q; new = n; stopped = s } → Only (run xs) (to-run n (refusalCode s)) q
-    only-run xs q n s e = (ap (λ (R : Run). to-run (R .new) (refusalCode (R .stopped))) (sym e), ap (λ (R : Run). R .steps) (sym e))
+    only-run : (xs q : List ℕ) (n : ℕ) (s : Option DocketFault) → runOf seat ops k p 0 xs ≡ record { steps = q; new = n; stopped = s } → Only (run xs) (to-run n (codeOf s)) q
+    only-run xs q n s e = (ap (λ (R : Run). to-run (R .new) (codeOf (R .stopped))) (sym e), ap (λ (R : Run). R .steps) (sym e))
 
     only-certify : (b w : Buffers) (a : Result Certificate DocketFault) → certifyAnswer seat ops p b ≡ a → w ≡ written seat ops p b a → Only (certify b) (to-certify a w) p
     only-certify b w a e g = (ap (to-certify a) g ∙ ap (λ (v : Result Certificate DocketFault). to-certify v (written seat ops p b v)) (sym e), refl)

@@ -1,5 +1,5 @@
 -- Every call leaves placed steps. Assumes nothing.
-use mathlib.Core.Path.{_≡_, refl, ap}
+use mathlib.Core.Path.{_≡_}
 use mathlib.Core.List.{List, [], _∷_, _++_}
 use Prim.Native.Nat.{ℕ, zero, suc, _+_, _-_}
 use native.Mathlib.Omega.{arith}
@@ -10,26 +10,13 @@ use Rattle.std.specs.declared.result.Result.the-variants.{Ok, Err}
 use Rattle.giving.specs.Lists.{times}
 use Rattle.order.specs.declared.operation.Paired.{Paired}
 use Rattle.calls.specs.declared.fault.DocketFault.{DocketFault}
-use Rattle.order.specs.Steps.{SeatRule, operation, afterStep, givingFrom, givingAfter, rankError, rankErrorsFrom}
+use Rattle.order.specs.Steps.{SeatRule, operation, afterStep, givingFrom, givingAfter}
 use Rattle.order.specs.Orders.{Acceptable, PlacedFrom, Placed}
 use Rattle.order.proofs.Splits.{same-times}
 use Rattle.calls.specs.Rules.{Run, joined, placeAnswer, runOf}
 use Rattle.calls.specs.Calls.{Call, place, run, lift, certify, leftBy, placedBy}
 use Rattle.calls.specs.Meanings.{Placing}
 use Rattle.calls.proofs.Judged.{judged}
-
-module _ (seat : SeatRule) (ops : List Paired) where
-  pub length-ranks : (p L : List ℕ) → length (rankErrorsFrom seat ops L p) ≡ length p
-  length-ranks [] L = refl
-  length-ranks (x ∷ p) L = ap suc (length-ranks p (afterStep seat x (operation ops x .deed) L))
-
-  pub ranks-append : (u v L : List ℕ) → rankErrorsFrom seat ops L (u ++ v) ≡ rankErrorsFrom seat ops L u ++ rankErrorsFrom seat ops (givingFrom seat ops L u) v
-  ranks-append [] v L = refl
-  ranks-append (x ∷ u) v L = ap (λ l. rankError (operation ops x .deed) L ∷ l) (ranks-append u v (afterStep seat x (operation ops x .deed) L))
-
-  pub giving-append : (u v L : List ℕ) → givingFrom seat ops L (u ++ v) ≡ givingFrom seat ops (givingFrom seat ops L u) v
-  giving-append [] v L = refl
-  giving-append (x ∷ u) v L = giving-append u v (afterStep seat x (operation ops x .deed) L)
 
 module _ (seat : SeatRule) (ops : List Paired) (k : ℕ) where
   placed-more : (p done L T : List ℕ) (x : ℕ) → ((a : ℕ) → times a T ≡ times a done + times a p)

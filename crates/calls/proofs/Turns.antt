@@ -25,7 +25,7 @@ use Rattle.order.proofs.Whole.{placed-of-true}
 use Rattle.calls.specs.Rules.{placeAnswer, Run, runOf, liftAnswer, withoutLast}
 use Rattle.calls.specs.Meanings.{Refused, Placing, InTurn}
 use Rattle.calls.proofs.Judged.{judged, accepted, answer-is}
-use Rattle.calls.proofs.Steps.{giving-append}
+use Rattle.order.proofs.Growing.{giving-append}
 
 -- ---- the steps but the last, and the last
 pub last-off : (x : ℕ) (p : List ℕ) → x ∷ p ≡ withoutLast (x ∷ p) ++ (getD (x ∷ p) (length (x ∷ p) - 1) 0 ∷ [])

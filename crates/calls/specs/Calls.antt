@@ -5,9 +5,9 @@ use Rattle.std.specs.declared.result.Result.{Result}
 use Rattle.order.specs.declared.operation.Paired.{Paired}
 use Rattle.order.specs.Steps.{SeatRule}
 use Rattle.calls.specs.declared.fault.DocketFault.{DocketFault}
-use Rattle.calls.specs.declared.fault.Code.{Code}
+use Rattle.calls.specs.declared.fault.RefusalCode.{RefusalCode}
 use Rattle.calls.specs.declared.certificate.Certificate.{Certificate}
-use Rattle.calls.specs.Faults.{refusalCode}
+use Rattle.calls.specs.Faults.{codeOf}
 use Rattle.calls.specs.Rules.{placeAnswer, joined, runOf, liftAnswer, withoutLast, Buffers, certifyAnswer, written}
 
 -- what may be asked of an open docket
@@ -20,7 +20,7 @@ pub data Call : Type 0 where
 -- what it answers; the buffers are those that certify leaves
 pub data Answer : Type 0 where
   to-place : Result ℕ DocketFault → Answer
-  to-run : ℕ → Code → Answer
+  to-run : ℕ → RefusalCode → Answer
   to-lift : Result ℕ DocketFault → Answer
   to-certify : Result Certificate DocketFault → Buffers → Answer
 
@@ -28,7 +28,7 @@ module _ (seat : SeatRule) (ops : List Paired) (k : ℕ) where
   -- the answer to a call on the steps p
   abbrev pub answerTo : List ℕ → Call → Answer
   answerTo p (place x) = to-place (placeAnswer seat ops k p x)
-  answerTo p (run xs) = to-run (runOf seat ops k p 0 xs .new) (refusalCode (runOf seat ops k p 0 xs .stopped))
+  answerTo p (run xs) = to-run (runOf seat ops k p 0 xs .new) (codeOf (runOf seat ops k p 0 xs .stopped))
   answerTo p lift = to-lift (liftAnswer p)
   answerTo p (certify b) = to-certify (certifyAnswer seat ops p b) (written seat ops p b (certifyAnswer seat ops p b))
 

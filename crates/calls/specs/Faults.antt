@@ -1,12 +1,11 @@
 -- The refusals of a docket in plain numbers. Assumes nothing.
-use Prim.Native.Nat.{ℕ}
 use Rattle.std.specs.declared.option.Option.{Option}
 use Rattle.std.specs.declared.option.Option.the-variants.{Some, None}
 use Rattle.refusal.specs.declared.Refusal.{Refusal}
 use Rattle.refusal.specs.declared.Layer.the-variants.{Docket}
 use Rattle.calls.specs.declared.fault.DocketFault.{DocketFault}
 use Rattle.calls.specs.declared.fault.DocketFault.the-variants.{NoSuchOperation, PlacedAlready, TooEarly, NotHeld, AboveBound, NothingToLift, StepsMissing, BufferTooShort}
-use Rattle.calls.specs.declared.fault.Code.{Code}
+use Rattle.calls.specs.declared.fault.RefusalCode.{RefusalCode}
 
 -- s is the number of placed steps, the second number what the refusal names
 abbrev pub docketRefusal : DocketFault → Refusal
@@ -20,6 +19,6 @@ docketRefusal (StepsMissing s a) = record { layer = Docket; number = 37; place =
 docketRefusal (BufferTooShort n) = record { layer = Docket; number = 38; place = 0; detail = n }
 
 -- what stopped a run, in plain numbers: all 0 for nothing
-abbrev pub refusalCode : Option DocketFault → Code
-refusalCode (Some e) = record { number = docketRefusal e .number; place = docketRefusal e .place; detail = docketRefusal e .detail }
-refusalCode None = record { number = 0; place = 0; detail = 0 }
+abbrev pub codeOf : Option DocketFault → RefusalCode
+codeOf (Some e) = record { number = docketRefusal e .number; place = docketRefusal e .place; detail = docketRefusal e .detail }
+codeOf None = record { number = 0; place = 0; detail = 0 }

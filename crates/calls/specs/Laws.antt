@@ -3,22 +3,20 @@ use mathlib.Core.Path.{_≡_}
 use mathlib.Core.Bool.{true, false}
 use mathlib.Core.List.{List, [], _∷_, _++_}
 use mathlib.Core.Logic.{_⊎_}
-use Prim.Native.Nat.{ℕ, _≤_}
-use lib.ListN.{length, getD, take}
+use Prim.Native.Nat.{ℕ}
+use lib.ListN.{length, getD}
 use Rattle.std.specs.declared.option.Option.the-variants.{None}
 use Rattle.std.specs.declared.result.Result.{Result}
 use Rattle.std.specs.declared.result.Result.the-variants.{Ok, Err}
 use Rattle.std.specs.Results.{isOk}
-use Rattle.std.specs.shelf.Lists.{Each}
 use Rattle.order.specs.declared.operation.Paired.{Paired}
 use Rattle.order.specs.Steps.{SeatRule, rankErrors, passingsOver, sum}
-use Rattle.order.specs.Times.{Instants}
 use Rattle.order.specs.Orders.{Placed, TrueOrder}
 use Rattle.order.specs.Wordings.{InTimeOrder}
 use Rattle.calls.specs.declared.fault.DocketFault.{DocketFault}
 use Rattle.calls.specs.declared.fault.DocketFault.the-variants.{AboveBound}
 use Rattle.calls.specs.declared.certificate.Certificate.{Certificate}
-use Rattle.calls.specs.Faults.{refusalCode}
+use Rattle.calls.specs.Faults.{codeOf}
 use Rattle.calls.specs.Rules.{placeAnswer, Buffers, tooShort, certifyAnswer, written}
 use Rattle.calls.specs.Calls.{Call, run, Answer, to-run, answerTo, answersTo, placedBy}
 use Rattle.calls.specs.Meanings.{Costs, Placing, Granted}
@@ -46,16 +44,16 @@ module _ (seat : SeatRule) (ops : List Paired) (k : ℕ) (calls : List Call) whe
   -- with nothing placed, a run of a true order places it whole
   abbrev pub TrueOrdersRunWhole : Type 0
   TrueOrdersRunWhole = steps ≡ [] → (o : List ℕ) → TrueOrder seat ops k o
-      → (answerTo seat ops k steps (run o) ≡ to-run (length ops) (refusalCode None)) × (placedBy seat ops k [] (calls ++ (run o ∷ [])) ≡ o)
+      → (answerTo seat ops k steps (run o) ≡ to-run (length ops) (codeOf None)) × (placedBy seat ops k [] (calls ++ (run o ∷ [])) ≡ o)
 
   -- a rank error that is answered, or named by a refusal, is the length of a shortest stretch
   abbrev pub AnsweredRankErrorsAreShortestStretches : Type 0
   AnsweredRankErrorsAreShortestStretches = (x r : ℕ)
-      → (placeAnswer seat ops k steps x ≡ Ok r) ⊎ (placeAnswer seat ops k steps x ≡ Err (AboveBound (length steps) r)) → Costs seat ops k steps x r
+      → (placeAnswer seat ops k steps x ≡ Ok r) ⊎ (placeAnswer seat ops k steps x ≡ Err (AboveBound (length steps) r)) → Costs seat ops steps x r
 
   -- and so is that of each placed step
   abbrev pub PlacedRankErrorsAreShortestStretches : Type 0
-  PlacedRankErrorsAreShortestStretches = (u v : List ℕ) (x : ℕ) → steps ≡ u ++ (x ∷ v) → Costs seat ops k u x (getD (rankErrors seat ops steps) (length u) 0)
+  PlacedRankErrorsAreShortestStretches = (u v : List ℕ) (x : ℕ) → steps ≡ u ++ (x ∷ v) → Costs seat ops u x (getD (rankErrors seat ops steps) (length u) 0)
 
   abbrev pub RankErrorsAddUpToPassingsOver : Type 0
   RankErrorsAddUpToPassingsOver = sum (rankErrors seat ops steps) ≡ passingsOver seat ops steps

@@ -1,6 +1,6 @@
 -- What an answer means, in the words of orders. Assumes nothing.
 use mathlib.Core.Path.{_≡_}
-use mathlib.Core.Bool.{Bool, true, false}
+use mathlib.Core.Bool.{true}
 use mathlib.Core.List.{List, [], _∷_, _++_}
 use Prim.Native.Nat.{ℕ, _<_, _≤_}
 use lib.ListN.{length, getD, take, drop}
@@ -9,7 +9,7 @@ use Rattle.std.specs.declared.result.Result.the-variants.{Ok, Err}
 use Rattle.std.specs.shelf.Lists.{Each}
 use Rattle.giving.specs.Lists.{times}
 use Rattle.order.specs.declared.operation.Paired.{Paired}
-use Rattle.order.specs.Steps.{SeatRule, operation, hasRank, rankError, givingAfter, lateness, passingsOver, sum}
+use Rattle.order.specs.Steps.{SeatRule, operation, givingAfter, lateness, passingsOver, sum}
 use Rattle.order.specs.Times.{precedes, Instants}
 use Rattle.order.specs.Orders.{Acceptable, TrueOrder}
 use Rattle.order.specs.Strict.{Stretch, ShortestStretch}
@@ -34,18 +34,18 @@ module _ (ops : List Paired) (p : List ℕ) (x : ℕ) where
   abbrev pub Free : Type 0
   Free = (b : ℕ) → Waits b → ⊥
 
-module _ (seat : SeatRule) (ops : List Paired) (k : ℕ) (p : List ℕ) (x : ℕ) where
-  -- r is the rank error of x: a shortest stretch has r items
-  abbrev pub Costs : ℕ → Type 0
-  Costs r = ShortestStretch (operation ops x .deed) (givingAfter seat ops p) r
+-- r is the rank error of x after p: a shortest stretch has r items
+abbrev pub Costs : SeatRule → List Paired → List ℕ → ℕ → ℕ → Type 0
+Costs seat ops p x r = ShortestStretch (operation ops x .deed) (givingAfter seat ops p) r
 
+module _ (seat : SeatRule) (ops : List Paired) (k : ℕ) (p : List ℕ) (x : ℕ) where
   -- the rule that x breaks, and no earlier one
   abbrev pub Breaks : DocketFault → Type 0
   Breaks (NoSuchOperation s) = length ops ≤ x
   Breaks (PlacedAlready s) = (x < length ops) × (0 < times x p)
   Breaks (TooEarly s b) = New ops p x × Waits ops p x b × ((c : ℕ) → c < b → Waits ops p x c → ⊥)
   Breaks (NotHeld s) = New ops p x × Free ops p x × ((r : ℕ) → Stretch (operation ops x .deed) (givingAfter seat ops p) r → ⊥)
-  Breaks (AboveBound s r) = New ops p x × Free ops p x × Costs r × (k < r)
+  Breaks (AboveBound s r) = New ops p x × Free ops p x × Costs seat ops p x r × (k < r)
   Breaks NothingToLift = ⊥
   Breaks (StepsMissing s a) = ⊥
   Breaks (BufferTooShort n) = ⊥
@@ -56,7 +56,7 @@ module _ (seat : SeatRule) (ops : List Paired) (k : ℕ) (p : List ℕ) (x : ℕ
 
   -- the step is accepted with the rank error r
   abbrev pub Accepted : ℕ → Type 0
-  Accepted r = Acceptable ops k p (givingAfter seat ops p) x × Costs r
+  Accepted r = Acceptable ops k p (givingAfter seat ops p) x × Costs seat ops p x r
 
   -- what each answer means
   abbrev pub Placing : Result ℕ DocketFault → Type 0
@@ -85,7 +85,7 @@ pub record Largest (n : ℕ) (xs : List ℕ) (m i : ℕ) : Type 0 where
 pub record Granted (seat : SeatRule) (ops : List Paired) (k : ℕ) (p : List ℕ) (b : Buffers) (c : Certificate) (w : Buffers) : Type 0 where
   pub order : TrueOrder seat ops k p
   pub room : (length ops ≤ length (b .ranks)) × (length ops ≤ length (b .instants)) × (length ops ≤ length (b .latenesses))
-  pub rank-errors : (u v : List ℕ) (x : ℕ) → p ≡ u ++ (x ∷ v) → Costs seat ops k u x (getD (w .ranks) (length u) 0)
+  pub rank-errors : (u v : List ℕ) (x : ℕ) → p ≡ u ++ (x ∷ v) → Costs seat ops u x (getD (w .ranks) (length u) 0)
   pub instants : Instants ops p (take (length ops) (w .instants))
   pub least : (ts : List ℕ) → Instants ops p ts → Each _≤_ (take (length ops) (w .instants)) ts
   pub latenesses : (a : ℕ) → a < length ops → getD (w .latenesses) a 0 ≡ lateness seat ops a p

@@ -12,7 +12,7 @@ use Rattle.order.specs.Steps.{SeatRule}
 use Rattle.calls.specs.declared.fault.DocketFault.{DocketFault}
 use Rattle.calls.specs.declared.fault.DocketFault.the-variants.{NothingToLift, StepsMissing, BufferTooShort}
 use Rattle.calls.specs.declared.certificate.Certificate.{Certificate}
-use Rattle.calls.specs.Faults.{refusalCode}
+use Rattle.calls.specs.Faults.{codeOf}
 use Rattle.calls.specs.Rules.{Buffers}
 use Rattle.calls.specs.Calls.{Call, place, run, lift, certify, Answer, to-place, to-run, to-lift, to-certify}
 use Rattle.calls.specs.Meanings.{Accepted, Refused, InTurn, Granted}
@@ -24,10 +24,10 @@ pub data Happens (seat : SeatRule) (ops : List Paired) (k : ℕ) (p : List ℕ) 
   -- a step that breaks a rule is refused by the first that it breaks, and nothing changes
   refused : (x : ℕ) (e : DocketFault) → Refused seat ops k p x e → Happens seat ops k p (place x) (to-place (Err e)) p
   -- a run places every number where each may come next in turn
-  ran : (xs : List ℕ) → InTurn seat ops k p xs → Happens seat ops k p (run xs) (to-run (length xs) (refusalCode None)) (p ++ xs)
+  ran : (xs : List ℕ) → InTurn seat ops k p xs → Happens seat ops k p (run xs) (to-run (length xs) (codeOf None)) (p ++ xs)
   -- and else those before the first that is refused
   ran-until : (us : List ℕ) (x : ℕ) (vs : List ℕ) (e : DocketFault) → InTurn seat ops k p us → Refused seat ops k (p ++ us) x e
-      → Happens seat ops k p (run (us ++ (x ∷ vs))) (to-run (length us) (refusalCode (Some e))) (p ++ us)
+      → Happens seat ops k p (run (us ++ (x ∷ vs))) (to-run (length us) (codeOf (Some e))) (p ++ us)
   -- a lift takes back the last step
   lifted : (q : List ℕ) (x : ℕ) → p ≡ q ++ (x ∷ []) → Happens seat ops k p lift (to-lift (Ok x)) q
   not-lifted : p ≡ [] → Happens seat ops k p lift (to-lift (Err NothingToLift)) p

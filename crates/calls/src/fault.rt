@@ -1,6 +1,6 @@
 // What a docket refuses.
 ghost use mathlib.Core.Path.{_≡_};
-ghost use Rattle.calls.specs.Faults.{docketRefusal, refusalCode};
+ghost use Rattle.calls.specs.Faults.{docketRefusal, codeOf};
 use refusal::Layer;
 use refusal::Refusal;
 
@@ -27,7 +27,7 @@ pub enum DocketFault {
 
 // A refusal in plain numbers, as a run answers it: number, place and detail, and all 0 for none.
 #[derive(Clone, Copy, PartialEq, Eq, Debug)]
-pub struct Code {
+pub struct RefusalCode {
     pub number: u8,
     pub place: u16,
     pub detail: u16,
@@ -57,21 +57,21 @@ impl DocketFault {
     }
 }
 
-impl Code {
+impl RefusalCode {
     // The code of what stopped a run, or of nothing.
-    pub fn of(stopped: Option<DocketFault>) -> Code
-        ensures { λ r. ⌜ r ≡ refusalCode stopped ⌝ }
+    pub fn of(stopped: Option<DocketFault>) -> RefusalCode
+        ensures { λ r. ⌜ r ≡ codeOf stopped ⌝ }
     {
         match stopped {
             Some(fault) => {
                 let refusal = fault.refusal();
-                Code {
+                RefusalCode {
                     number: refusal.number,
                     place: refusal.place,
                     detail: refusal.detail,
                 }
             }
-            None => Code {
+            None => RefusalCode {
                 number: 0,
                 place: 0,
                 detail: 0,

@@ -4,7 +4,7 @@ use mathlib.Core.List.{List, [], _∷_}
 use Prim.Native.Nat.{ℕ}
 use lib.ListN.{length, replicate}
 use Rattle.std.specs.declared.option.Option.the-variants.{Some, None}
-use Rattle.std.specs.declared.result.Result.the-variants.{Ok, Err}
+use Rattle.std.specs.declared.result.Result.the-variants.{Ok}
 use Rattle.holder.specs.Kinds.{queueSeat, stackSeat}
 use Rattle.order.specs.declared.operation.Paired.{Paired}
 use Rattle.order.specs.Steps.{SeatRule}
@@ -12,7 +12,7 @@ use Rattle.order.specs.Orders.{TrueOrder}
 use Rattle.calls.specs.declared.fault.DocketFault.{DocketFault}
 use Rattle.calls.specs.declared.fault.DocketFault.the-variants.{TooEarly, NotHeld, AboveBound}
 use Rattle.calls.specs.declared.certificate.Certificate.{Certificate}
-use Rattle.calls.specs.Faults.{refusalCode}
+use Rattle.calls.specs.Faults.{codeOf}
 use Rattle.calls.specs.Rules.{Buffers}
 use Rattle.calls.specs.Calls.{run, certify, to-run, to-certify, answersTo}
 use Rattle.examples.specs.Histories.{lastTakenFirst, twoAdds, emptyAfterAdd, takenAtOnce, lastEndsFirst}
@@ -22,11 +22,11 @@ abbrev pub Certified : SeatRule → List Paired → ℕ → List ℕ → Certifi
 Certified seat ops k order c w =
     let zeros : List ℕ = replicate (length ops) 0 in
     answersTo seat ops k [] (run order ∷ certify (record { ranks = zeros; instants = zeros; latenesses = zeros }) ∷ [])
-    ≡ to-run (length ops) (refusalCode None) ∷ to-certify (Ok c) w ∷ []
+    ≡ to-run (length ops) (codeOf None) ∷ to-certify (Ok c) w ∷ []
 
 -- a run of the order places n steps, and the next is refused so
 abbrev pub StopsAfter : SeatRule → List Paired → ℕ → List ℕ → ℕ → DocketFault → Type 0
-StopsAfter seat ops k order n e = answersTo seat ops k [] (run order ∷ []) ≡ to-run n (refusalCode (Some e)) ∷ []
+StopsAfter seat ops k order n e = answersTo seat ops k [] (run order ∷ []) ≡ to-run n (codeOf (Some e)) ∷ []
 
 -- 0, 1, .., 5
 abbrev pub asNumbered : List ℕ

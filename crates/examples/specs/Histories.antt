@@ -2,7 +2,7 @@
 use mathlib.Core.List.{List, [], _∷_}
 use Prim.Native.Nat.{ℕ}
 use Rattle.order.specs.declared.operation.Deed.{Deed}
-use Rattle.order.specs.declared.operation.Deed.the-variants.{Add, Take, TakeOfNone, FoundEmpty}
+use Rattle.order.specs.declared.operation.Deed.the-variants.{Add, Take, FoundEmpty}
 use Rattle.order.specs.declared.operation.Paired.{Paired}
 
 -- the operation with the number n, from start to end

@@ -1,7 +1,7 @@
 -- The rank errors of a placed order add up to its passings-over: both count the pairs of a step and an item that it passed over. Assumes nothing.
-use mathlib.Core.Path.{_≡_, refl, sym, ap, _∙_, fun-ext}
+use mathlib.Core.Path.{_≡_, sym, ap, _∙_, fun-ext}
 use mathlib.Core.Bool.{cond}
-use mathlib.Core.List.{List, [], _∷_, _++_}
+use mathlib.Core.List.{List, [], _∷_}
 use Prim.Native.Nat.{ℕ, _+_, _<_, _≤_}
 use native.Mathlib.Omega.{arith}
 use lib.Dec.{eqb}
@@ -26,7 +26,7 @@ rank-le TakeOfNone L = omega arith
 rank-le FoundEmpty L = omega arith
 
 module _ (seat : SeatRule) (x : ℕ) where
-  after-times : (d : Deed) (L : List ℕ) (b : ℕ) → times b (afterStep seat x d L) ≤ cond (eqb b x) 1 0 + times b L
+  pub after-times : (d : Deed) (L : List ℕ) (b : ℕ) → times b (afterStep seat x d L) ≤ cond (eqb b x) 1 0 + times b L
   after-times Add L b = omega (arith, times-insert b x (seat L x) L)
   after-times (Take a) L b = omega (arith, times-without b a L)
   after-times TakeOfNone L b = omega arith

@@ -1,6 +1,5 @@
 -- Instants by place, and orders that keep to the order of time. Assumes nothing.
 use mathlib.Core.Path.{_≡_, refl, ap}
-use mathlib.Core.Bool.{false}
 use mathlib.Core.List.{List, [], _∷_}
 use Prim.Native.Nat.{ℕ, zero, suc, _<_, _≤_, max}
 use native.Mathlib.Omega.{arith}
@@ -8,7 +7,7 @@ use lib.ListN.{length, getD}
 use Rattle.std.proofs.shelf.Tests.{ltb-false, le-ltb}
 use Rattle.order.specs.declared.operation.Paired.{Paired}
 use Rattle.order.specs.Steps.{SeatRule, operation}
-use Rattle.order.specs.Times.{precedes, InstantsFrom, Instants, earliestFrom, earliest}
+use Rattle.order.specs.Times.{InstantsFrom, Instants, earliestFrom, earliest}
 use Rattle.order.specs.Orders.{Placed}
 use Rattle.order.specs.Wordings.{AtEachPlace, InTimeOrder}
 use Rattle.order.proofs.Whole.{placed-instants}

@@ -6,3 +6,5 @@ pub mod Splits
 pub mod Whole
 pub mod InTime
 pub mod Strictly
+pub mod Growing
+pub mod Sizes

@@ -1,12 +1,11 @@
 -- The strict object is the case of bound 0. Assumes nothing.
 use mathlib.Core.Path.{_≡_, refl, sym}
 use mathlib.Core.Bool.{true, false}
-use mathlib.Core.List.{List, [], _∷_, _++_}
-use Prim.Native.Nat.{ℕ, suc, _<_, _≤_}
+use mathlib.Core.List.{List, [], _∷_}
+use Prim.Native.Nat.{ℕ, suc, _≤_}
 use native.Mathlib.Omega.{arith}
 use lib.Dec.{eqb}
-use lib.ListN.{length}
-use Rattle.std.proofs.shelf.Tests.{cond-both, cond-true, eqb-true, eq-eqb, ltb-true, lt-ltb, both-ways}
+use Rattle.std.proofs.shelf.Tests.{cond-both, eqb-true, ltb-true, both-ways}
 use Rattle.giving.specs.Lists.{place}
 use Rattle.order.specs.declared.operation.Deed.{Deed}
 use Rattle.order.specs.declared.operation.Deed.the-variants.{Add, Take, TakeOfNone, FoundEmpty}

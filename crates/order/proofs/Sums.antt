@@ -46,7 +46,7 @@ pub sumBelow-ones : (n : ℕ) (f : ℕ → ℕ) → ((a : ℕ) → a < n → f a
 sumBelow-ones zero f h = refl
 sumBelow-ones (suc n) f h = omega (arith, h n (omega arith), sumBelow-ones n f (λ a l. h a (omega arith)))
 
-sumBelow-le : (n : ℕ) (f : ℕ → ℕ) → ((a : ℕ) → f a ≤ 1) → sumBelow n f ≤ n
+pub sumBelow-le : (n : ℕ) (f : ℕ → ℕ) → ((a : ℕ) → f a ≤ 1) → sumBelow n f ≤ n
 sumBelow-le zero f h = omega arith
 sumBelow-le (suc n) f h = omega (arith, h n, sumBelow-le n f h)
 

@@ -41,6 +41,13 @@ afterStep seat x (Take a) L = without a L
 afterStep seat x TakeOfNone L = L
 afterStep seat x FoundEmpty L = L
 
+-- how many items the step adds
+abbrev pub itemsAdded : Deed → ℕ
+itemsAdded Add = 1
+itemsAdded (Take a) = 0
+itemsAdded TakeOfNone = 0
+itemsAdded FoundEmpty = 0
+
 -- a step with rank error r passes over the first r items: 1 if a is among them, else 0
 abbrev pub passesOver : ℕ → ℕ → List ℕ → ℕ
 passesOver a r L = cond (eqb (times a (take r L)) 0) 0 1
@@ -87,3 +94,8 @@ module _ (seat : SeatRule) (ops : List Paired) where
   -- the latenesses of all operations together
   abbrev pub passingsOver : List ℕ → ℕ
   passingsOver p = sumBelow (length ops) (λ a. lateness a p)
+
+-- how many of the steps add an item
+abbrev pub addsIn : List Paired → List ℕ → ℕ
+addsIn ops [] = 0
+addsIn ops (x ∷ p) = itemsAdded (operation ops x .deed) + addsIn ops p

@@ -1,5 +1,5 @@
 // The laws of orders.
-ghost use Rattle.order.specs.Laws.{RankErrorsAddUp, RankErrorIsShortestStretch, TrueOrdersArePlacedWhole, EarliestInstantsAreLeast, StrictIsBoundZero};
+ghost use Rattle.order.specs.Laws.{RankErrorsAddUp, RankErrorIsShortestStretch, TrueOrdersArePlacedWhole, EarliestInstantsAreLeast, StrictIsBoundZero, OneMoreStep, PlacedOrdersStaySmall};
 ghost use Rattle.order.specs.Wordings.{PlacedStepByStep, InstantsByPlace, AdmitsExactlyInTimeOrder, PlacedInTimeOrder};
 
 // What an order costs and which orders are true. The function does nothing: its contract says that the laws hold.
@@ -8,12 +8,16 @@ ghost use Rattle.order.specs.Wordings.{PlacedStepByStep, InstantsByPlace, Admi
 // - The true orders are the placed orders that have a step for each operation.
 // - The earliest instants are admissible wherever any are, and no other admissible list has a smaller one anywhere.
 // - The strict object itself is the case of bound 0.
+// - One more step changes the giving list, the rank errors, the latenesses and the count of adds by what it finds.
+// - The numbers of a placed order are bounded by the number of operations and the bound.
 pub fn orders_keep_their_laws()
     ensures sums { λ _. ⌜ RankErrorsAddUp ⌝ }
     ensures stretches { λ _. ⌜ RankErrorIsShortestStretch ⌝ }
     ensures whole { λ _. ⌜ TrueOrdersArePlacedWhole ⌝ }
     ensures earliest { λ _. ⌜ EarliestInstantsAreLeast ⌝ }
     ensures strict { λ _. ⌜ StrictIsBoundZero ⌝ }
+    ensures growing { λ _. ⌜ OneMoreStep ⌝ }
+    ensures small { λ _. ⌜ PlacedOrdersStaySmall ⌝ }
 {}
 
 // The definitions that go through an order from the front, said of its steps and places instead.

@@ -11,8 +11,8 @@ use Rattle.calls.specs.declared.certificate.Certificate.{Certificate}
 use Rattle.order.specs.Orders.{Placed}
 use Rattle.order.proofs.AddUp.{add-up}
 use Rattle.order.proofs.InTime.{placed-in-time-order}
-use Rattle.calls.specs.Faults.{refusalCode}
-use Rattle.calls.specs.Rules.{Run, runOf, certificateOf, written}
+use Rattle.calls.specs.Faults.{codeOf}
+use Rattle.calls.specs.Rules.{Run, runOf, written}
 use Rattle.calls.specs.Calls.{run, to-run, answerTo, answersTo, placedBy}
 use Rattle.calls.specs.Meanings.{Granted}
 use Rattle.calls.proofs.Judged.{means, answer-is}
@@ -39,7 +39,7 @@ returns c seat ops k calls =
       granted = λ b s. (granted-true seat ops k p h b, λ t. ap isOk (true-granted seat ops k p t b s));
       whole = λ e o t.
           let w : runOf seat ops k p 0 o ≡ record { steps = o; new = length ops; stopped = None } = ap (λ (l : List ℕ). runOf seat ops k l 0 o) e ∙ whole seat ops k o t in
-          (ap (λ (R : Run). to-run (R .new) (refusalCode (R .stopped))) w, placed-append seat ops k calls (run o ∷ []) [] ∙ ap (λ (R : Run). R .steps) w);
+          (ap (λ (R : Run). to-run (R .new) (codeOf (R .stopped))) w, placed-append seat ops k calls (run o ∷ []) [] ∙ ap (λ (R : Run). R .steps) w);
       answered = λ x r. ⊎-elim (λ e. means seat ops k p x (Ok r) e .1) (λ e. means seat ops k p x (Err (AboveBound (length p) r)) e .1 .2);
       step-costs = λ u v x e. costs-at seat ops k p u v x h e;
       sums = add-up seat ops k p h;
