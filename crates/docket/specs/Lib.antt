@@ -1,0 +1,5 @@
+pub mod Pairs
+pub mod Kept
+pub mod Moves
+pub mod InStep
+pub mod Tied

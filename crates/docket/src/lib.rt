@@ -1,0 +1,4 @@
+// The docket: an order of the operations of a sheet, placed step by step on a holder.
+pub mod docket;
+mod entry;
+mod ledger;
