@@ -1,4 +1,4 @@
--- A step written sooner, and taken out again. Assumes nothing.
+-- A step written down, and taken out again. Assumes nothing.
 use mathlib.Core.Path.{_≡_, refl, sym, ap, subst, _∙_}
 use mathlib.Core.Logic.{⊎-elim}
 use mathlib.Core.Bool.{Bool, true, false, cond, not}

@@ -20,7 +20,7 @@ use Rattle.docket.specs.declared.entry.Entry.{Entry}
 use Rattle.docket.specs.declared.ledger.Ledger.{Ledger}
 use Rattle.docket.specs.Kept.{entryOf}
 use Rattle.docket.specs.InStep.{pairedIn, opsOf, stepsOf, addsIn, InStep}
-use Rattle.docket.specs.Moves.{Stand, replayed, sooner, withFlag, changedAt, changedAll}
+use Rattle.docket.specs.Moves.{Stand, replayed, movedBy, withFlag, changedAt, changedAll}
 use Rattle.docket.proofs.Books.{last-step}
 use Rattle.docket.proofs.Pushes.{ranks-push, lateness-push, held-times}
 use Rattle.docket.proofs.Table.{keeps-one, map-keeps-one, map-keeps-all, late-down}
@@ -42,7 +42,7 @@ module _ (seat : SeatRule) (l u m : Ledger) (L : List ℕ) (n x r : ℕ)
     (u-rs : u .ranks ≡ l .ranks)
     (u-placed : u .placed ≡ l .placed - 1)
     (u-count : u .count ≡ l .count)
-    (m-es : m .entries ≡ changedAll sooner (u .entries) (take r L))
+    (m-es : m .entries ≡ changedAll (movedBy false) (u .entries) (take r L))
     (m-ss : m .steps ≡ u .steps)
     (m-rs : m .ranks ≡ u .ranks)
     (m-placed : m .placed ≡ u .placed)
@@ -56,7 +56,7 @@ module _ (seat : SeatRule) (l u m : Ledger) (L : List ℕ) (n x r : ℕ)
   m-to-u : opsOf m ≡ opsOf u
   m-to-u =
       ap (λ (v : ℕ). take v (map pairedIn (m .entries))) m-count
-      ∙ ap (take (u .count)) (ap (map pairedIn) m-es ∙ map-keeps-all pairedIn sooner (λ e. refl) (take r L) (u .entries))
+      ∙ ap (take (u .count)) (ap (map pairedIn) m-es ∙ map-keeps-all pairedIn (movedBy false) (λ e. refl) (take r L) (u .entries))
 
   m-steps : stepsOf m ≡ stepsOf u
   m-steps = ap (λ (v : ℕ). take v (m .steps)) m-placed ∙ ap (take (u .placed)) m-ss

@@ -14,7 +14,7 @@ use Rattle.order.specs.Steps.{operation}
 use Rattle.docket.specs.declared.entry.Entry.{Entry}
 use Rattle.docket.specs.Kept.{blank, entryOf}
 use Rattle.docket.specs.InStep.{pairedIn}
-use Rattle.docket.specs.Moves.{later, sooner, changedAt, changedAll}
+use Rattle.docket.specs.Moves.{movedBy, changedAt, changedAll}
 
 pub op-at : (es : List Entry) (n x : ℕ) → n ≤ length es → x < n → operation (take n (map pairedIn es)) x ≡ pairedIn (entryOf es x)
 op-at es n x l h = getD-take n (map pairedIn es) x _ h ∙ getD-map pairedIn es x blank _ (omega arith)
@@ -64,28 +64,32 @@ late-here f es c k e h =
 late-there : (f : Entry → Entry) (es : List Entry) (c k : ℕ) → (k ≡ c → ⊥) → entryOf (changedAt f es c) k .late ≡ entryOf es k .late
 late-there f es c k e = ap (λ (v : Entry). v .late) (getD-set-other es c k (f (entryOf es c)) blank e)
 
-pub late-up : (cs : List ℕ) (es : List Entry) (k : ℕ) → k < length es → entryOf es k .late + times k cs ≤ 65535 → entryOf (changedAll later es cs) k .late ≡ entryOf es k .late + times k cs
+pub late-up : (cs : List ℕ) (es : List Entry) (k : ℕ) → k < length es → entryOf es k .late + times k cs ≤ 65535 → entryOf (changedAll (movedBy true) es cs) k .late ≡ entryOf es k .late + times k cs
 unfolding changedAll
 late-up [] es k h low = omega arith
 late-up (c ∷ cs) es k h low =
-    let n = length-set es c (later (entryOf es c)) in
+    let n = length-set es c (movedBy true (entryOf es c)) in
     ⊎-elim
     (λ (e : k ≡ c).
-    let a = late-here later es c k e h in
+    let a = late-here (movedBy true) es c k e h in
     let t = times-hit k c cs e in
-    omega (arith, a, t, late-up cs (changedAt later es c) k (omega arith) (omega (arith, a, t))))
+    omega (arith, a, t, late-up cs (changedAt (movedBy true) es c) k (omega arith) (omega (arith, a, t))))
     (λ (e : k ≡ c → ⊥).
-    let a = late-there later es c k e in
+    let a = late-there (movedBy true) es c k e in
     let t = times-miss k c cs e in
-    omega (arith, a, t, late-up cs (changedAt later es c) k (omega arith) (omega (arith, a, t))))
+    omega (arith, a, t, late-up cs (changedAt (movedBy true) es c) k (omega arith) (omega (arith, a, t))))
     (cases-eq k c)
 
-pub late-down : (cs : List ℕ) (es : List Entry) (k : ℕ) → k < length es → entryOf (changedAll sooner es cs) k .late ≡ entryOf es k .late - times k cs
+pub late-down : (cs : List ℕ) (es : List Entry) (k : ℕ) → k < length es → entryOf (changedAll (movedBy false) es cs) k .late ≡ entryOf es k .late - times k cs
 unfolding changedAll
 late-down [] es k h = omega arith
 late-down (c ∷ cs) es k h =
-    let n = length-set es c (sooner (entryOf es c)) in
+    let n = length-set es c (movedBy false (entryOf es c)) in
     ⊎-elim
-    (λ (e : k ≡ c). omega (arith, late-here sooner es c k e h, times-hit k c cs e, late-down cs (changedAt sooner es c) k (omega arith)))
-    (λ (e : k ≡ c → ⊥). omega (arith, late-there sooner es c k e, times-miss k c cs e, late-down cs (changedAt sooner es c) k (omega arith)))
+    (λ (e : k ≡ c). omega (arith, late-here (movedBy false) es c k e h, times-hit k c cs e, late-down cs (changedAt (movedBy false) es c) k (omega arith)))
+    (λ (e : k ≡ c → ⊥). omega (arith, late-there (movedBy false) es c k e, times-miss k c cs e, late-down cs (changedAt (movedBy false) es c) k (omega arith)))
     (cases-eq k c)
+
+-- moved latenesses leave the flags
+pub flag-kept : (up : Bool) (es fs : List Entry) (cs : List ℕ) (x : ℕ) → fs ≡ changedAll (movedBy up) es cs → entryOf fs x .placed ≡ entryOf es x .placed
+flag-kept up es fs cs x e = ap (λ (v : List Entry). entryOf v x .placed) e ∙ keeps-all (λ (v : Entry). v .placed) (movedBy up) (λ v. refl) cs es x

@@ -28,7 +28,7 @@ use Rattle.docket.specs.declared.entry.Entry.{Entry}
 use Rattle.docket.specs.declared.ledger.Ledger.{Ledger}
 use Rattle.docket.specs.Kept.{blank, entryOf}
 use Rattle.docket.specs.InStep.{pairedIn, opsOf, stepsOf, oneIfAdd, addsIn, InStep}
-use Rattle.docket.specs.Moves.{Stand, stepped, rankFound, waits, judged, judgedRank, judgedWait, later, withFlag, changedAt, changedAll}
+use Rattle.docket.specs.Moves.{Stand, stepped, rankFound, waits, judged, judgedRank, judgedWait, movedBy, withFlag, changedAt, changedAll}
 use Rattle.docket.proofs.Books.{lowest-ext, unflagged, room, known-all, last-step, none-before}
 use Rattle.docket.proofs.Turns.{judged-beyond, judged-in}
 use Rattle.docket.proofs.Pushes.{held-push, ranks-push, lateness-push, lateness-le, held-times, adds-push, adds-le}
@@ -160,7 +160,7 @@ judged-rank-is m n x k b w d L v h f e =
 -- ---- a step placed
 module _ (seat : SeatRule) (l m : Ledger) (L : List ℕ) (x r : ℕ)
     (xn : x < l .count) (off : entryOf (l .entries) x .placed ≡ false)
-    (es-is : m .entries ≡ changedAt (withFlag true) (changedAll later (l .entries) (take r L)) x)
+    (es-is : m .entries ≡ changedAt (withFlag true) (changedAll (movedBy true) (l .entries) (take r L)) x)
     (ss-is : m .steps ≡ set (l .steps) (l .placed) x)
     (rs-is : m .ranks ≡ set (l .ranks) (l .placed) r)
     (placed-is : m .placed ≡ l .placed + 1)
@@ -174,7 +174,7 @@ module _ (seat : SeatRule) (l m : Ledger) (L : List ℕ) (x r : ℕ)
   pub placed-ops : opsOf m ≡ opsOf l
   placed-ops =
       ap (λ (n : ℕ). take n (map pairedIn (m .entries))) count-is
-      ∙ ap (take (l .count)) (ap (map pairedIn) es-is ∙ map-keeps-one pairedIn (withFlag true) (λ e. refl) (changedAll later (l .entries) (take r L)) x ∙ map-keeps-all pairedIn later (λ e. refl) (take r L) (l .entries))
+      ∙ ap (take (l .count)) (ap (map pairedIn) es-is ∙ map-keeps-one pairedIn (withFlag true) (λ e. refl) (changedAll (movedBy true) (l .entries) (take r L)) x ∙ map-keeps-all pairedIn (movedBy true) (λ e. refl) (take r L) (l .entries))
 
   pub placed-steps : stepsOf m ≡ stepsOf l ++ x ∷ []
   placed-steps = ap (λ (n : ℕ). take n (m .steps)) placed-is ∙ ap (take (l .placed + 1)) ss-is ∙ take-more-set (l .steps) (l .placed) x (omega (arith, fits))
@@ -210,8 +210,8 @@ module _ (seat : SeatRule) (l m : Ledger) (L : List ℕ) (x r : ℕ)
         let e : passesOver y r L ≡ passesOver y (rankError d (givingAfter seat (opsOf l) (stepsOf l))) (givingAfter seat (opsOf l) (stepsOf l)) =
         ap (λ (v : ℕ). passesOver y v L) r-is ∙ ap (passesOver y (rankError d (givingAfter seat (opsOf l) (stepsOf l)))) (i .gives) in
         let c = lateness-le seat (opsOf l) y [] (stepsOf l) in
-        let k : entryOf (m .entries) y .late ≡ getD (changedAll later (l .entries) (take r L)) y blank .late =
-        ap (λ (es : List Entry). entryOf es y .late) es-is ∙ keeps-one (λ (v : Entry). v .late) (withFlag true) (λ v. refl) (changedAll later (l .entries) (take r L)) x y in
+        let k : entryOf (m .entries) y .late ≡ getD (changedAll (movedBy true) (l .entries) (take r L)) y blank .late =
+        ap (λ (es : List Entry). entryOf es y .late) es-is ∙ keeps-one (λ (v : Entry). v .late) (withFlag true) (λ v. refl) (changedAll (movedBy true) (l .entries) (take r L)) x y in
         let u = late-up (take r L) (l .entries) y (omega arith) (omega (arith, a, t, c, long-steps l)) in
         omega (arith, k, u, a, b, e, lateness-push seat (opsOf l) y [] (stepsOf l) x)
 

@@ -21,6 +21,9 @@ use Rattle.holder.specs.declared.fault.HolderFault.{HolderFault}
 use Rattle.docket.specs.declared.entry.Entry.{Entry}
 use Rattle.docket.specs.Moves.{rankFound, judged, judgedRank, judgedWait, changedAt, changedAll}
 
+pub not-both : true ≡ false → ⊥
+not-both f = let z : _≡_ {A = ℕ} 1 0 = ap (λ (b : Bool). cond b 1 0) f in omega arith
+
 pub rank-take-ok : (L : List ℕ) (a r : ℕ) → Ok r ≡ rankAnswer L a → Some r ≡ rankFound (Take a) L
 unfolding rankFound
 rank-take-ok L a r e =

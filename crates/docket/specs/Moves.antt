@@ -61,12 +61,12 @@ judgedWait m None a = a
 unfoldable pub judged : ℕ → ℕ → ℕ → ℕ → Bool → Option ℕ → Option ℕ → Result ℕ DocketFault
 judged m n x k placed w r = cond (leb n x) (Err (NoSuchOperation m)) (cond placed (Err (PlacedAlready m)) (judgedWait m w (judgedRank m k r)))
 
--- one lateness more, or less
-abbrev pub later : Entry → Entry
-later e = record { paired = e .paired; late = min (e .late + 1) (2 ^ 16 - 1); placed = e .placed }
+-- a lateness one higher, or one lower; latenesses have 16 bits
+abbrev pub movedLate : Bool → ℕ → ℕ
+movedLate up n = cond up (min (n + 1) (2 ^ 16 - 1)) (n - 1)
 
-abbrev pub sooner : Entry → Entry
-sooner e = record { paired = e .paired; late = e .late - 1; placed = e .placed }
+abbrev pub movedBy : Bool → Entry → Entry
+movedBy up e = record { paired = e .paired; late = movedLate up (e .late); placed = e .placed }
 
 abbrev pub withFlag : Bool → Entry → Entry
 withFlag b e = record { paired = e .paired; late = e .late; placed = b }

@@ -1,14 +1,13 @@
 // The calls that place steps and take them back.
 ghost use mathlib.Core.Path.{_≡_};
-ghost use mathlib.Core.List.{List};
-ghost use Prim.Native.Nat.{ℕ};
+ghost use mathlib.Core.Bool.{false};
+ghost use Rattle.std.specs.Results.{isOk};
 ghost use Rattle.calls.specs.Faults.{refusalCode};
 ghost use Rattle.calls.specs.Rules.{joined, liftAnswer, withoutLast};
 ghost use Rattle.docket.specs.Tied.{Tied, opsIn, stepsIn, boundIn, placing, running};
 use crate::docket::Docket;
 use crate::docket::parts::judge;
-use crate::docket::parts::lower;
-use crate::docket::parts::raise;
+use crate::docket::parts::move_latenesses;
 use crate::docket::parts::replay;
 use crate::docket::parts::step;
 use crate::ledger::books::mark;
@@ -25,12 +24,13 @@ impl<H: Holder> Docket<H> {
         ensures steps { λ r. ⌜ stepsIn (now (self .exit)) ≡ joined (stepsIn (now (self .entry))) operation r ⌝ }
         ensures table { λ _. ⌜ opsIn (now (self .exit)) ≡ opsIn (now (self .entry)) ⌝ }
         ensures bound { λ _. ⌜ boundIn (now (self .exit)) ≡ boundIn (now (self .entry)) ⌝ }
+        ensures refused { λ r. ⌜ (isOk r ≡ false → now (self .exit) ≡ now (self .entry)) ⌝ }
     {
         match judge(&self.holder, &self.ledger, operation) {
             Err(e) => Err(e),
             Ok(rank) => {
                 let deed = self.ledger.entries[operation as usize].paired.deed;
-                raise(&self.holder, &mut self.ledger.entries, rank);
+                move_latenesses(&self.holder, &mut self.ledger.entries, rank, true);
                 step(&mut self.holder, operation, deed);
                 mark(&mut self.ledger, operation, rank);
                 Ok(rank)
@@ -68,13 +68,14 @@ impl<H: Holder> Docket<H> {
         ensures steps { λ _. ⌜ stepsIn (now (self .exit)) ≡ withoutLast (stepsIn (now (self .entry))) ⌝ }
         ensures table { λ _. ⌜ opsIn (now (self .exit)) ≡ opsIn (now (self .entry)) ⌝ }
         ensures bound { λ _. ⌜ boundIn (now (self .exit)) ≡ boundIn (now (self .entry)) ⌝ }
+        ensures refused { λ r. ⌜ (isOk r ≡ false → now (self .exit) ≡ now (self .entry)) ⌝ }
     {
         if self.ledger.placed == 0 {
             return Err(DocketFault::NothingToLift);
         }
         let (x, rank) = unmark(&mut self.ledger);
         replay(&mut self.holder, &self.ledger);
-        lower(&self.holder, &mut self.ledger.entries, rank);
+        move_latenesses(&self.holder, &mut self.ledger.entries, rank, false);
         Ok(x)
     }
 }

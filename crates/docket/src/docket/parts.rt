@@ -6,7 +6,7 @@ ghost use lib.ListN.{length, take};
 ghost use Rattle.calls.specs.Rules.{lowest};
 ghost use Rattle.docket.specs.Kept.{entryOf};
 ghost use Rattle.docket.specs.InStep.{stepsOf};
-ghost use Rattle.docket.specs.Moves.{stepped, replayed, rankFound, waits, judged, later, sooner, changedAll};
+ghost use Rattle.docket.specs.Moves.{stepped, replayed, rankFound, waits, judged, movedLate, movedBy, changedAll};
 use crate::entry::Entry;
 use crate::ledger::Ledger;
 use crate::ledger::books::waiting;
@@ -57,27 +57,25 @@ pub(crate) fn replay<H: Holder>(holder: &mut H, ledger: &Ledger)
     }
 }
 
-// One lateness more for each of the first r codes of the giving list.
-pub(crate) fn raise<H: Holder>(holder: &H, entries: &mut [Entry], r: u16)
-    requires { ⌜ length (now entries) ≡ 1024 ⌝ }
-    ensures { λ _. ⌜ now (entries .exit) ≡ changedAll later (now (entries .entry)) (take r (H·Holder .giving (now (holder .entry)))) ⌝ }
+// A lateness one higher, or one lower.
+pub(crate) fn moved(late: u16, up: bool) -> u16
+    ensures { λ r. ⌜ r ≡ movedLate up late ⌝ }
 {
-    for at in 0..r {
-        if let Ok(code) = holder.at(at) {
-            let late = entries[code as usize].late.saturating_add(1);
-            entries[code as usize].late = late;
-        }
+    if up {
+        late.saturating_add(1)
+    } else {
+        late.saturating_sub(1)
     }
 }
 
-// One lateness less for each of the first r codes of the giving list.
-pub(crate) fn lower<H: Holder>(holder: &H, entries: &mut [Entry], r: u16)
+// Moves the lateness of each of the first r codes of the giving list up or down by one.
+pub(crate) fn move_latenesses<H: Holder>(holder: &H, entries: &mut [Entry], r: u16, up: bool)
     requires { ⌜ length (now entries) ≡ 1024 ⌝ }
-    ensures { λ _. ⌜ now (entries .exit) ≡ changedAll sooner (now (entries .entry)) (take r (H·Holder .giving (now (holder .entry)))) ⌝ }
+    ensures { λ _. ⌜ now (entries .exit) ≡ changedAll (movedBy up) (now (entries .entry)) (take r (H·Holder .giving (now (holder .entry)))) ⌝ }
 {
     for at in 0..r {
         if let Ok(code) = holder.at(at) {
-            let late = entries[code as usize].late.saturating_sub(1);
+            let late = moved(entries[code as usize].late, up);
             entries[code as usize].late = late;
         }
     }

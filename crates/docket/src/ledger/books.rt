@@ -12,13 +12,17 @@ use crate::ledger::Ledger;
 pub(crate) fn waiting(ledger: &Ledger, start: u64) -> Option<u16>
     ensures { λ r. ⌜ r ≡ lowest (waits (now (ledger .entry) .entries) start) 0 (now (ledger .entry) .count) ⌝ }
 {
-    for i in 0..ledger.count {
+    let mut i = 0;
+    loop {
+        if i >= ledger.count {
+            break None;
+        }
         let e = ledger.entries[i as usize];
         if !e.placed && e.paired.end < start {
-            return Some(i);
+            break Some(i);
         }
+        i += 1;
     }
-    None
 }
 
 // Writes a new step down, with its rank error.

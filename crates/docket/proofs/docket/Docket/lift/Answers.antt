@@ -1,28 +1,22 @@
 use mathlib.Core.Path.{_≡_, refl, sym, ap, _∙_}
-use mathlib.Core.List.{List}
+use mathlib.Core.Bool.{false}
 use Prim.Native.Nat.{ℕ, _<_}
 use native.Mathlib.Omega.{arith}
-use lib.ListN.{getD}
-use Rattle.docket.specs.declared.entry.Entry.{Entry}
-use Rattle.docket.specs.Kept.{entryOf}
-use Rattle.docket.specs.Moves.{sooner, changedAll}
-use Rattle.docket.proofs.Table.{keeps-all}
+use Rattle.docket.proofs.Table.{flag-kept}
 use Rattle.docket.proofs.Lifts.{lift-none, lifted}
+use Rattle.docket.proofs.Turns.{not-both}
 use Rattle.docket.proofs.docket.Docket.lift.Needs as need
 
 pub returns-then-self-eq0 : need.returns-then-self-eq0
 returns-then-self-eq0 g c =
     let n = lift-none (g .H·Holder .seat) (c .args .self .now .ledger) (c .if-self-eq0 .taken) in
-    record { answer = n .0; tied = λ i. i; steps = n .1; table = refl; bound = refl }
-
-flag-lowered : (es fs : List Entry) (cs : List ℕ) (x : ℕ) → fs ≡ changedAll sooner es cs → entryOf fs x .placed ≡ entryOf es x .placed
-flag-lowered es fs cs x e = ap (λ (v : List Entry). entryOf v x .placed) e ∙ keeps-all (λ (v : Entry). v .placed) sooner (λ v. refl) cs es x
+    record { answer = n .0; tied = λ i. i; steps = n .1; table = refl; bound = refl; refused = λ _. refl }
 
 pub ghost-self : need.ghost-self
 ghost-self g c =
     let u = c .unmark-x .last .ledger in (
-      (c .lower .kept .entries ∙ u .full .0, u .full .1, u .full .2),
-      (u .few, (u .known, (u .once, ((λ x h. flag-lowered (u .entries) (c .lower .last .entries) _ x (c .lower .ensures) ∙ u .flagged x h), tt)))),
+      (c .move-latenesses .kept .entries ∙ u .full .0, u .full .1, u .full .2),
+      (u .few, (u .known, (u .once, ((λ x h. flag-kept false (u .entries) (c .move-latenesses .last .entries) _ x (c .move-latenesses .ensures) ∙ u .flagged x h), tt)))),
     )
 
 pub returns : need.returns
@@ -31,5 +25,5 @@ returns g c =
     let u = c .unmark-x .last .ledger in
     let e = c .unmark-x .ensures in
     let pos : 0 < l .placed = omega (arith, c .if-self-eq0 .left) in
-    let w = lifted (g .H·Holder .seat) l u _ _ _ _ _ pos (e .step) (e .rank) (e .entries) (e .steps) (e .ranks) (e .placed) (e .count) (c .lower .ensures) refl refl refl refl (c .replay .ensures) _ _ in
-    record { answer = w .1; tied = w .0; steps = w .2; table = w .3; bound = e .bound }
+    let w = lifted (g .H·Holder .seat) l u _ _ _ _ _ pos (e .step) (e .rank) (e .entries) (e .steps) (e .ranks) (e .placed) (e .count) (c .move-latenesses .ensures) refl refl refl refl (c .replay .ensures) _ _ in
+    record { answer = w .1; tied = w .0; steps = w .2; table = w .3; bound = e .bound; refused = λ f. absurd (not-both f) }

@@ -6,30 +6,27 @@ use native.Mathlib.Omega.{arith}
 use lib.ListN.{length, getD, take}
 use Rattle.docket.specs.declared.entry.Entry.{Entry}
 use Rattle.docket.specs.Kept.{entryOf}
-use Rattle.docket.specs.Moves.{later, withFlag, changedAt, changedAll}
-use Rattle.docket.proofs.Table.{keeps-all}
-use Rattle.docket.proofs.Turns.{judged-ok}
+use Rattle.docket.specs.Moves.{movedBy, withFlag, changedAt, changedAll}
+use Rattle.docket.proofs.Table.{flag-kept}
+use Rattle.docket.proofs.Turns.{judged-ok, not-both}
 use Rattle.docket.proofs.Ties.{judged-is, judged-rank-is, placed-ops, placed-steps, placed-in-step}
 use Rattle.docket.proofs.docket.Docket.place.Needs as need
 
 pub index-self-operation : need.index-self-operation
 index-self-operation g c = let o = judged-ok _ _ _ _ _ _ _ (c .in-Ok .rank) (c .in-Ok .ensures tt) in omega (arith, o .0)
 
-flag-raised : (es fs : List Entry) (cs : List ℕ) (x : ℕ) → fs ≡ changedAll later es cs → entryOf fs x .placed ≡ entryOf es x .placed
-flag-raised es fs cs x e = ap (λ (v : List Entry). entryOf v x .placed) e ∙ keeps-all (λ (v : Entry). v .placed) later (λ v. refl) cs es x
-
 pub ghost-self : need.ghost-self
 ghost-self g c =
     let l = c .args .self .now .ledger in (
-      (c .raise .kept .entries ∙ l .full .0, l .full .1, l .full .2),
-      (l .few, (l .known, (l .once, ((λ x h. flag-raised (l .entries) (c .raise .last .entries) _ x (c .raise .ensures) ∙ l .flagged x h), tt)))),
+      (c .move-latenesses .kept .entries ∙ l .full .0, l .full .1, l .full .2),
+      (l .few, (l .known, (l .once, ((λ x h. flag-kept true (l .entries) (c .move-latenesses .last .entries) _ x (c .move-latenesses .ensures) ∙ l .flagged x h), tt)))),
     )
 
 pub mark-requires : need.mark-requires
 mark-requires g c κs =
     let l = c .args .self .now .ledger in
     let o = judged-ok _ _ _ _ _ _ _ (c .in-Ok .rank) (c .in-Ok .ensures tt) in
-    record { within = o .0; new = flag-raised (l .entries) (c .raise .last .entries) _ (c .args .operation) (c .raise .ensures) ∙ o .1 }
+    record { within = o .0; new = flag-kept true (l .entries) (c .move-latenesses .last .entries) _ (c .args .operation) (c .move-latenesses .ensures) ∙ o .1 }
 
 pub returns-in-Err : need.returns-in-Err
 returns-in-Err g c = record {
@@ -38,6 +35,7 @@ returns-in-Err g c = record {
   steps = refl;
   table = refl;
   bound = refl;
+  refused = λ _. refl;
 }
 
 pub returns-in-Ok : need.returns-in-Ok
@@ -49,7 +47,7 @@ returns-in-Ok g c =
     let x = c .args .operation in
     let r = c .in-Ok .rank in
     let o = judged-ok _ _ _ _ _ _ _ r (c .in-Ok .ensures tt) in
-    let es : m .entries ≡ changedAt (withFlag true) (changedAll later (l .entries) (take r L)) x = c .mark .ensures .entries ∙ ap (λ (v : List Entry). changedAt (withFlag true) v x) (c .raise .ensures) in
+    let es : m .entries ≡ changedAt (withFlag true) (changedAll (movedBy true) (l .entries) (take r L)) x = c .mark .ensures .entries ∙ ap (λ (v : List Entry). changedAt (withFlag true) v x) (c .move-latenesses .ensures) in
     let e = c .mark .ensures in
     record {
       answer = λ i. c .in-Ok .ensures tt ∙ judged-is seat l _ _ x i;
@@ -57,4 +55,5 @@ returns-in-Ok g c =
       steps = placed-steps seat l m L x r (o .0) (o .1) es (e .steps) (e .ranks) (e .placed) (e .count);
       table = placed-ops seat l m L x r (o .0) (o .1) es (e .steps) (e .ranks) (e .placed) (e .count);
       bound = e .bound;
+      refused = λ f. absurd (not-both f);
     }

@@ -4,9 +4,9 @@ use native.Mathlib.Omega.{arith}
 use Rattle.giving.proofs.Counts.{below-at}
 use lib.ListN.{length, getD, set}
 use Rattle.docket.specs.Kept.{entryOf}
-use Rattle.docket.specs.Moves.{later, changedAll}
+use Rattle.docket.specs.Moves.{movedBy, changedAll}
 use Rattle.docket.proofs.Turns.{at-ok, at-err, changed-step, changed-past}
-use Rattle.docket.proofs.docket.parts.raise.Needs as need
+use Rattle.docket.proofs.docket.parts.move_latenesses.Needs as need
 
 pub loop-at-holds : need.loop-at-holds
 unfolding changedAll
@@ -32,7 +32,7 @@ loop-at-again g c =
       | need.in-Ok w ↦
           let a = at-ok L (c .loop-at .at) (w .in-Ok .code) (w .in-Ok .ensures tt) in
           let e = entryOf es (w .in-Ok .code) in
-          changed-step later (c .args .entries .now) es (c .match-at .entries) L (c .loop-at .at) (w .in-Ok .code) (a .0) (a .1) (c .loop-at .inv)
-          (w .entries-is ∙ ap (λ (v : ℕ). set es (w .in-Ok .code) (record { paired = e .paired; late = v; placed = e .placed })) (w .saturating-add-late .ensures))
-      | need.in-rest w ↦ w .entries-is ∙ c .loop-at .inv ∙ sym (changed-past later (c .args .entries .now) L (c .loop-at .at) (at-err L (c .loop-at .at) (w .in-rest .field-0) (w .in-rest .ensures tt)))
+          changed-step (movedBy (c .args .up)) (c .args .entries .now) es (c .match-at .entries) L (c .loop-at .at) (w .in-Ok .code) (a .0) (a .1) (c .loop-at .inv)
+          (w .entries-is ∙ ap (λ (v : ℕ). set es (w .in-Ok .code) (record { paired = e .paired; late = v; placed = e .placed })) (w .moved-late .ensures))
+      | need.in-rest w ↦ w .entries-is ∙ c .loop-at .inv ∙ sym (changed-past (movedBy (c .args .up)) (c .args .entries .now) L (c .loop-at .at) (at-err L (c .loop-at .at) (w .in-rest .field-0) (w .in-rest .ensures tt)))
     ]
