@@ -8,3 +8,6 @@ pub mod Holds
 pub mod Ties
 pub mod Lifts
 pub mod Runs
+pub mod Sums
+pub mod Certified
+pub mod Slotted

@@ -6,7 +6,10 @@ use lib.ListN.{take}
 use Rattle.order.specs.declared.operation.Deed.{Deed}
 use Rattle.order.specs.declared.operation.Deed.the-variants.{Add, Take, TakeOfNone, FoundEmpty}
 use Rattle.order.specs.declared.operation.Paired.{Paired}
-use Rattle.order.specs.Steps.{SeatRule, operation, givingAfter, rankErrors, lateness}
+use Rattle.order.specs.Steps.{SeatRule, operation, givingAfter, rankErrors, lateness, sum}
+use Rattle.giving.specs.Lists.{place}
+use Rattle.calls.specs.declared.certificate.Certificate.{Certificate}
+use Rattle.calls.specs.Rules.{Buffers, largestOf}
 use Rattle.docket.specs.declared.entry.Entry.{Entry}
 use Rattle.docket.specs.declared.ledger.Ledger.{Ledger}
 use Rattle.docket.specs.Kept.{entryOf}
@@ -38,3 +41,20 @@ pub record InStep (seat : SeatRule) (L : List ℕ) (n : ℕ) (l : Ledger) : Type
   pub added : n ≡ addsIn (opsOf l) (stepsOf l)
   pub lates : (x : ℕ) → x < l .count → entryOf (l .entries) x .late ≡ lateness seat (opsOf l) x (stepsOf l)
   pub errors : take (l .placed) (l .ranks) ≡ rankErrors seat (opsOf l) (stepsOf l)
+
+-- ---- what a certificate is written from
+
+-- three buffers
+abbrev pub three : List ℕ → List ℕ → List ℕ → Buffers
+three r i t = record { ranks = r; instants = i; latenesses = t }
+
+-- the latenesses of the table, and the rank errors of the steps
+abbrev pub latesOf : Ledger → List ℕ
+latesOf l = map (λ e. e .late) (take (l .count) (l .entries))
+
+abbrev pub errorsOf : Ledger → List ℕ
+errorsOf l = take (l .placed) (l .ranks)
+
+-- the sum of rank errors, the largest, and the first place where it stands
+abbrev pub summedUp : List ℕ → Certificate
+summedUp rs = record { total = sum rs; largest = largestOf rs; first = place (largestOf rs) rs }

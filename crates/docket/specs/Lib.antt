@@ -3,3 +3,4 @@ pub mod Kept
 pub mod Moves
 pub mod InStep
 pub mod Tied
+pub mod Slots

@@ -48,6 +48,9 @@ rankFound d L = cond (hasRank d L) (Some (rankError d L)) None
 abbrev pub waits : List Entry → ℕ → ℕ → Bool
 waits es t b = not (entryOf es b .placed) && ltb (entryOf es b .paired .end) t
 
+abbrev pub notPlaced : List Entry → ℕ → Bool
+notPlaced es b = not (entryOf es b .placed)
+
 -- the rules, from the number of steps m, the bound k, and what the table and the holder say of the operation x:
 -- how many operations there are, whether it is placed, what it waits for, and its rank error
 abbrev pub judgedRank : ℕ → ℕ → Option ℕ → Result ℕ DocketFault

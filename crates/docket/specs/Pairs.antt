@@ -6,6 +6,8 @@ use Rattle.std.specs.declared.option.Option.the-variants.{Some, None}
 use Rattle.sheet.specs.declared.operation.Method.{Method}
 use Rattle.sheet.specs.declared.operation.Method.the-variants as method
 use Rattle.sheet.specs.declared.operation.Operation.{Operation}
+use Rattle.sheet.specs.declared.sheet.Sheet.{Sheet}
+use Rattle.sheet.specs.Sheets.{entered}
 use Rattle.sheet.specs.Pairing.{pairOfMethod}
 use Rattle.order.specs.declared.operation.Deed.{Deed}
 use Rattle.order.specs.declared.operation.Deed.the-variants.{Add, Take, TakeOfNone, FoundEmpty}
@@ -27,3 +29,6 @@ module _ {I : Type 0} where
     -- the operations of a sheet, each paired
     abbrev pub pairedAll : List (Operation I) → List Paired
     pairedAll os = map (pairedOf os) os
+
+    abbrev pub sheetOps : Sheet I → List Paired
+    sheetOps s = pairedAll (entered s)

@@ -5,7 +5,9 @@ use Rattle.std.specs.declared.result.Result.{Result}
 use Rattle.order.specs.declared.operation.Paired.{Paired}
 use Rattle.holder.specs.declared.holder.Holder.{Ghosts}
 use Rattle.calls.specs.declared.fault.DocketFault.{DocketFault}
-use Rattle.calls.specs.Rules.{Run, placeAnswer, runOf}
+use Rattle.calls.specs.declared.certificate.Certificate.{Certificate}
+use Rattle.calls.specs.Rules.{Run, Buffers, placeAnswer, runOf, certifyAnswer, written}
+use Rattle.calls.specs.Calls.{Call, Answer, answerTo, leftBy, answersTo, placedBy}
 use Rattle.docket.specs.declared.docket.Docket.{Docket}
 use Rattle.docket.specs.InStep.{opsOf, stepsOf, InStep}
 
@@ -31,3 +33,23 @@ module _ {X : Type 0} (m : Ghosts X) (d : Docket X) where
 
   abbrev pub running : List ℕ → Run
   running xs = runOf (m .seat) (opsIn d) (boundIn d) (stepsIn d) 0 xs
+
+  -- what they answer to a certify, and what they have it write
+  abbrev pub certifying : Buffers → Result Certificate DocketFault
+  certifying b = certifyAnswer (m .seat) (opsIn d) (stepsIn d) b
+
+  abbrev pub writing : Buffers → Result Certificate DocketFault → Buffers
+  writing b r = written (m .seat) (opsIn d) (stepsIn d) b r
+
+  -- the answer to any call and the steps that it leaves, and those of calls in turn
+  abbrev pub replying : Call → Answer
+  replying c = answerTo (m .seat) (opsIn d) (boundIn d) (stepsIn d) c
+
+  abbrev pub leaving : Call → List ℕ
+  leaving c = leftBy (m .seat) (opsIn d) (boundIn d) (stepsIn d) c
+
+  abbrev pub replyingAll : List Call → List Answer
+  replyingAll cs = answersTo (m .seat) (opsIn d) (boundIn d) (stepsIn d) cs
+
+  abbrev pub leavingAll : List Call → List ℕ
+  leavingAll cs = placedBy (m .seat) (opsIn d) (boundIn d) (stepsIn d) cs

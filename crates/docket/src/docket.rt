@@ -3,6 +3,7 @@ use crate::ledger::Ledger;
 use holder::holder::Holder;
 
 mod calls;
+mod certifying;
 mod opening;
 pub mod parts;
 

@@ -7,6 +7,7 @@ use crate::entry::Entry;
 
 pub mod books;
 pub mod copying;
+pub mod sums;
 
 // The table of the operations, the bound, and the placed steps with their rank errors.
 #[derive(Drop)]
