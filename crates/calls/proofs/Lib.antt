@@ -5,3 +5,4 @@ pub mod Grants
 pub mod Turns
 pub mod Filled
 pub mod Sessions
+pub mod Law

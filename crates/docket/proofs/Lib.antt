@@ -1,0 +1,13 @@
+pub mod Pairings
+pub mod Entered
+pub mod Books
+pub mod Turns
+pub mod Pushes
+pub mod Table
+pub mod Holds
+pub mod Ties
+pub mod Lifts
+pub mod Runs
+pub mod Sums
+pub mod Certified
+pub mod Slotted
