@@ -11,11 +11,11 @@ use Rattle.std.specs.shelf.Maps.{nth}
 use Rattle.std.proofs.shelf.Lists.{map-set, take-more, take-more-set, length-map}
 use Rattle.std.proofs.shelf.Maps.{nth-getD}
 use Rattle.order.specs.declared.operation.Paired.{Paired}
-use Rattle.order.specs.Steps.{SeatRule, givingAfter, rankErrors, lateness}
+use Rattle.order.specs.Steps.{SeatRule, givingAfter, rankErrors, lateness, addsIn}
 use Rattle.docket.specs.declared.entry.Entry.{Entry}
 use Rattle.docket.specs.declared.ledger.Ledger.{Ledger}
 use Rattle.docket.specs.Kept.{blank, entryOf}
-use Rattle.docket.specs.InStep.{pairedIn, opsOf, stepsOf, addsIn, InStep}
+use Rattle.docket.specs.InStep.{pairedIn, opsOf, stepsOf, InStep}
 
 pub all-blank : (n x : ℕ) → entryOf (replicate n blank) x ≡ blank
 all-blank zero x = refl

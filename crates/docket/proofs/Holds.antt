@@ -17,11 +17,10 @@ use Rattle.giving.proofs.Places.{place-absent}
 use Rattle.order.specs.declared.operation.Deed.{Deed}
 use Rattle.order.specs.declared.operation.Deed.the-variants.{Add, Take, TakeOfNone, FoundEmpty}
 use Rattle.order.specs.declared.operation.Paired.{Paired}
-use Rattle.order.specs.Steps.{SeatRule, operation, afterStep, givingFrom}
+use Rattle.order.specs.Steps.{SeatRule, operation, afterStep, givingFrom, itemsAdded, addsIn}
 use Rattle.holder.specs.Answers.{addAnswer}
 use Rattle.docket.specs.declared.entry.Entry.{Entry}
 use Rattle.docket.specs.Kept.{entryOf}
-use Rattle.docket.specs.InStep.{oneIfAdd, addsIn}
 use Rattle.docket.specs.Moves.{Stand, stepped, replayed}
 use Rattle.docket.proofs.Pushes.{after-times, one-if-le}
 
@@ -33,7 +32,7 @@ add-ok L n x h z l =
     rw (a, b, d)
 
 pub stepped-after : (seat : SeatRule) (x : ℕ) (d : Deed) (L : List ℕ) (n : ℕ) → x < 1024 → times x L ≡ 0 → n < 1024
-    → stepped seat x d (record { list = L; many = n }) ≡ record { list = afterStep seat x d L; many = n + oneIfAdd d }
+    → stepped seat x d (record { list = L; many = n }) ≡ record { list = afterStep seat x d L; many = n + itemsAdded d }
 stepped-after seat x Add L n h z l =
     let e = add-ok L n x h z l in
     let a = cond-true (isOk (addAnswer L n x)) (inserted L (seat L x) x) L e in
@@ -58,9 +57,9 @@ module _ (seat : SeatRule) (es : List Entry) (ops : List Paired) where
       let d : Deed = operation ops x .deed in
       let hit = cond-true {A = ℕ} (eqb x x) 1 0 (eq-eqb x x refl) in
       let z : times x L ≡ 0 = omega (arith, once x) in
-      let s : stepped seat x (entryOf es x .paired .deed) (record { list = L; many = n }) ≡ record { list = afterStep seat x d L; many = n + oneIfAdd d } =
+      let s : stepped seat x (entryOf es x .paired .deed) (record { list = L; many = n }) ≡ record { list = afterStep seat x d L; many = n + itemsAdded d } =
       ap (λ (e : Deed). stepped seat x e (record { list = L; many = n })) (all .0 .1) ∙ stepped-after seat x d L n (all .0 .0) z (omega arith) in
-      let m : n + oneIfAdd d + addsIn ops p ≡ n + (oneIfAdd d + addsIn ops p) = omega arith in
+      let m : n + itemsAdded d + addsIn ops p ≡ n + (itemsAdded d + addsIn ops p) = omega arith in
       ap (λ (t : Stand). replayed seat es t p) s
-      ∙ replayed-held p (afterStep seat x d L) (n + oneIfAdd d) (all .1) (λ y. omega (arith, once y, after-times seat x d L y)) (omega (arith, one-if-le d))
+      ∙ replayed-held p (afterStep seat x d L) (n + itemsAdded d) (all .1) (λ y. omega (arith, once y, after-times seat x d L y)) (omega (arith, one-if-le d))
       ∙ ap (λ (v : ℕ). record { list = givingFrom seat ops (afterStep seat x d L) p; many = v }) m

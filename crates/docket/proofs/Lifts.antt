@@ -11,7 +11,7 @@ use Rattle.std.proofs.shelf.Lists.{same-from-push}
 use Rattle.giving.specs.Lists.{times}
 use Rattle.giving.proofs.Counts.{times-take}
 use Rattle.order.specs.declared.operation.Paired.{Paired}
-use Rattle.order.specs.Steps.{SeatRule, operation, rankError, passesOver, givingAfter, rankErrors, lateness}
+use Rattle.order.specs.Steps.{SeatRule, operation, rankError, passesOver, givingAfter, rankErrors, lateness, addsIn}
 use Rattle.order.proofs.Sums.{passes-times}
 use Rattle.calls.specs.declared.fault.DocketFault.the-variants.{NothingToLift}
 use Rattle.calls.specs.Rules.{liftAnswer, withoutLast}
@@ -19,7 +19,7 @@ use Rattle.calls.proofs.Turns.{without-last-is, lift-is}
 use Rattle.docket.specs.declared.entry.Entry.{Entry}
 use Rattle.docket.specs.declared.ledger.Ledger.{Ledger}
 use Rattle.docket.specs.Kept.{entryOf}
-use Rattle.docket.specs.InStep.{pairedIn, opsOf, stepsOf, addsIn, InStep}
+use Rattle.docket.specs.InStep.{pairedIn, opsOf, stepsOf, InStep}
 use Rattle.docket.specs.Moves.{Stand, replayed, movedBy, withFlag, changedAt, changedAll}
 use Rattle.docket.proofs.Books.{last-step}
 use Rattle.docket.proofs.Pushes.{ranks-push, lateness-push, held-times}

@@ -12,9 +12,8 @@ use Rattle.giving.proofs.Counts.{times-insert, times-without}
 use Rattle.order.specs.declared.operation.Deed.{Deed}
 use Rattle.order.specs.declared.operation.Deed.the-variants.{Add, Take, TakeOfNone, FoundEmpty}
 use Rattle.order.specs.declared.operation.Paired.{Paired}
-use Rattle.order.specs.Steps.{SeatRule, operation, rankError, afterStep, passesOver, givingFrom, rankErrorsFrom, latenessFrom}
+use Rattle.order.specs.Steps.{SeatRule, operation, rankError, afterStep, passesOver, givingFrom, rankErrorsFrom, latenessFrom, itemsAdded, addsIn}
 use Rattle.order.proofs.Growing.{ranks-append, giving-append}
-use Rattle.docket.specs.InStep.{oneIfAdd, addsIn}
 
 pub after-times : (seat : SeatRule) (x : ℕ) (d : Deed) (L : List ℕ) (b : ℕ) → times b (afterStep seat x d L) ≤ cond (eqb b x) 1 0 + times b L
 after-times seat x Add L b = omega (arith, times-insert b x (seat L x) L)
@@ -22,7 +21,7 @@ after-times seat x (Take a) L b = omega (arith, times-without b a L)
 after-times seat x TakeOfNone L b = omega arith
 after-times seat x FoundEmpty L b = omega arith
 
-pub one-if-le : (d : Deed) → oneIfAdd d ≤ 1
+pub one-if-le : (d : Deed) → itemsAdded d ≤ 1
 one-if-le Add = omega arith
 one-if-le (Take a) = omega arith
 one-if-le TakeOfNone = omega arith
@@ -32,7 +31,7 @@ passes-le : (a r : ℕ) (L : List ℕ) → passesOver a r L ≤ 1
 passes-le a r L = cond-both (eqb (times a (take r L)) 0) 0 1 (λ (v : ℕ). v ≤ 1) (λ e. omega arith) (λ e. omega arith)
 
 module _ (ops : List Paired) where
-  pub adds-push : (p : List ℕ) (x : ℕ) → addsIn ops (p ++ x ∷ []) ≡ addsIn ops p + oneIfAdd (operation ops x .deed)
+  pub adds-push : (p : List ℕ) (x : ℕ) → addsIn ops (p ++ x ∷ []) ≡ addsIn ops p + itemsAdded (operation ops x .deed)
   adds-push [] x = omega arith
   adds-push (y ∷ p) x = omega (arith, adds-push p x)
 

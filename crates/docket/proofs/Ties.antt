@@ -19,7 +19,7 @@ use Rattle.giving.specs.Lists.{times}
 use Rattle.giving.proofs.Counts.{times-take}
 use Rattle.order.specs.declared.operation.Deed.{Deed}
 use Rattle.order.specs.declared.operation.Paired.{Paired}
-use Rattle.order.specs.Steps.{SeatRule, operation, hasRank, rankError, afterStep, passesOver, givingAfter, rankErrors, lateness}
+use Rattle.order.specs.Steps.{SeatRule, operation, hasRank, rankError, afterStep, passesOver, givingAfter, rankErrors, lateness, itemsAdded, addsIn}
 use Rattle.order.proofs.Sums.{passes-times}
 use Rattle.calls.specs.declared.fault.DocketFault.{DocketFault}
 use Rattle.calls.specs.declared.fault.DocketFault.the-variants.{NoSuchOperation, PlacedAlready, NotHeld, AboveBound}
@@ -27,7 +27,7 @@ use Rattle.calls.specs.Rules.{lowest, unplaced, waitsFor, unlessEarly, placeAns
 use Rattle.docket.specs.declared.entry.Entry.{Entry}
 use Rattle.docket.specs.declared.ledger.Ledger.{Ledger}
 use Rattle.docket.specs.Kept.{blank, entryOf}
-use Rattle.docket.specs.InStep.{pairedIn, opsOf, stepsOf, oneIfAdd, addsIn, InStep}
+use Rattle.docket.specs.InStep.{pairedIn, opsOf, stepsOf, InStep}
 use Rattle.docket.specs.Moves.{Stand, stepped, rankFound, waits, judged, judgedRank, judgedWait, movedBy, withFlag, changedAt, changedAll}
 use Rattle.docket.proofs.Books.{lowest-ext, unflagged, room, known-all, last-step, none-before}
 use Rattle.docket.proofs.Turns.{judged-beyond, judged-in}
@@ -192,7 +192,7 @@ module _ (seat : SeatRule) (l m : Ledger) (L : List ℕ) (x r : ℕ)
     once-held : (a : ℕ) → times a L ≤ times a (stepsOf l)
     once-held a = omega (arith, ap (times a) (i .gives), held-times seat (opsOf l) a [] (stepsOf l))
 
-    after-is : _≡_ {A = Stand} (record { list = L'; many = n' }) (record { list = afterStep seat x d L; many = n + oneIfAdd d })
+    after-is : _≡_ {A = Stand} (record { list = L'; many = n' }) (record { list = afterStep seat x d L; many = n + itemsAdded d })
     after-is =
         stand-is ∙ ap (λ (e : Deed). stepped seat x e (record { list = L; many = n })) d-is
         ∙ stepped-after seat x d L n (omega arith) (omega (arith, once-held x, new))
@@ -222,7 +222,7 @@ module _ (seat : SeatRule) (l m : Ledger) (L : List ℕ) (x r : ℕ)
           ap (λ (s : Stand). s .list) after-is ∙ ap (afterStep seat x d) (i .gives) ∙ sym (held-push seat (opsOf l) [] (stepsOf l) x)
           ∙ ap (givingAfter seat (opsOf l)) (sym placed-steps) ∙ ap (λ (o : List Paired). givingAfter seat o (stepsOf m)) (sym placed-ops);
       added =
-          ap (λ (s : Stand). s .many) after-is ∙ ap (λ (v : ℕ). v + oneIfAdd d) (i .added) ∙ sym (adds-push (opsOf l) (stepsOf l) x)
+          ap (λ (s : Stand). s .many) after-is ∙ ap (λ (v : ℕ). v + itemsAdded d) (i .added) ∙ sym (adds-push (opsOf l) (stepsOf l) x)
           ∙ ap (addsIn (opsOf l)) (sym placed-steps) ∙ ap (λ (o : List Paired). addsIn o (stepsOf m)) (sym placed-ops);
       lates = λ y yn.
           late-is y (omega (arith, count-is, yn))

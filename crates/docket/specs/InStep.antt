@@ -3,10 +3,8 @@ use mathlib.Core.Path.{_≡_}
 use mathlib.Core.List.{List, [], _∷_, map}
 use Prim.Native.Nat.{ℕ, _+_, _<_}
 use lib.ListN.{take}
-use Rattle.order.specs.declared.operation.Deed.{Deed}
-use Rattle.order.specs.declared.operation.Deed.the-variants.{Add, Take, TakeOfNone, FoundEmpty}
 use Rattle.order.specs.declared.operation.Paired.{Paired}
-use Rattle.order.specs.Steps.{SeatRule, operation, givingAfter, rankErrors, lateness, sum}
+use Rattle.order.specs.Steps.{SeatRule, givingAfter, rankErrors, lateness, sum, addsIn}
 use Rattle.giving.specs.Lists.{place}
 use Rattle.calls.specs.declared.certificate.Certificate.{Certificate}
 use Rattle.calls.specs.Rules.{Buffers, largestOf}
@@ -23,17 +21,6 @@ opsOf l = take (l .count) (map pairedIn (l .entries))
 
 abbrev pub stepsOf : Ledger → List ℕ
 stepsOf l = take (l .placed) (l .steps)
-
-abbrev pub oneIfAdd : Deed → ℕ
-oneIfAdd Add = 1
-oneIfAdd (Take a) = 0
-oneIfAdd TakeOfNone = 0
-oneIfAdd FoundEmpty = 0
-
--- how many of the steps add
-abbrev pub addsIn : List Paired → List ℕ → ℕ
-addsIn ops [] = 0
-addsIn ops (x ∷ p) = oneIfAdd (operation ops x .deed) + addsIn ops p
 
 -- the holder's giving list L and its count of adds n are what the placed steps give, and so are the latenesses and the rank errors
 pub record InStep (seat : SeatRule) (L : List ℕ) (n : ℕ) (l : Ledger) : Type 0 where

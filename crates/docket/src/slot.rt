@@ -1,7 +1,7 @@
 // Calls in a list, each with room for its answer.
 use calls::certificate::Certificate;
-use calls::fault::RefusalCode;
 use calls::fault::DocketFault;
+use calls::fault::RefusalCode;
 
 // A call and what was answered to it; certify also writes its buffers.
 #[derive(Drop)]

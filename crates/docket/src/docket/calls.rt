@@ -12,8 +12,8 @@ use crate::docket::parts::replay;
 use crate::docket::parts::step;
 use crate::ledger::books::mark;
 use crate::ledger::books::unmark;
-use calls::fault::RefusalCode;
 use calls::fault::DocketFault;
+use calls::fault::RefusalCode;
 use holder::holder::Holder;
 
 impl<H: Holder> Docket<H> {
