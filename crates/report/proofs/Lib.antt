@@ -1,2 +1,3 @@
 mod Listings
+mod Verdicts
 mod Sayings

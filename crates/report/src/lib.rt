@@ -1,4 +1,5 @@
 // From the bytes of a trace to the text that is printed.
 pub mod line;
-pub mod listing;
+pub mod lines;
 pub mod report;
+pub mod verdict;

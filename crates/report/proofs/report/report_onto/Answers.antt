@@ -11,8 +11,8 @@ use Rattle.trace.specs.Reading.{Outcome, reading}
 use Rattle.trace.specs.Copying.{copying, Copied}
 use Rattle.trace.specs.Answers.{held}
 use Rattle.trace.proofs.Copies.{always-written}
-use Rattle.report.specs.Reports.{saying, isAccepted}
-use Rattle.report.proofs.Sayings.{never-differs, granted-said, fault-said}
+use Rattle.report.specs.Reports.{saying}
+use Rattle.report.proofs.Sayings.{never-differs, examined-said, fault-said}
 use Rattle.report.proofs.report.report_onto.Needs as need
 
 pub returns-then-ne : need.returns-then-ne
@@ -20,17 +20,16 @@ returns-then-ne g c =
     absurd (never-differs (c .copy .last .out) (c .args .bytes .now) (c .args .out .now) (c .ne .result) (c .ne .ensures .0) (c .ne .ensures .1) (c .ne .ensures .2)
     (c .in-Ok .ensures tt .written-back-is-its-own-bytes) (c .pre) (c .if-ne .taken))
 
-pub returns-in-Continue-granted : need.returns-in-Continue-granted
-returns-in-Continue-granted g c =
+pub returns-in-Continue-examined : need.returns-in-Continue-examined
+returns-in-Continue-examined g c =
     let t = g .I·Item in
     let bs = c .args .bytes .now in
     let e = c .in-Ok .ensures tt in
     let same = ap (λ m. reading (g .I·Item) (min (length m) 1024) (c .args .bytes .now)) (c .new-sheet .ensures .memory) in
     let s =
-    granted-said t (reading (g .I·Item) (room (c .new-sheet .result)) bs) (entered (c .new-sheet .result)) (entered (c .copy .last .sheet)) (length (c .args .out .now)) (c .in-Ok .accepted)
+    examined-said t (reading (g .I·Item) (room (c .new-sheet .result)) bs) (entered (c .new-sheet .result)) (entered (c .copy .last .sheet)) (length (c .args .out .now)) (c .in-Ok .accepted)
     (e .answer) (e .entered) in
-    let r = c .in-Continue-granted .ensures tt in
-    (r .0 ∙ s .0 ∙ ap (saying t) same, r .1 ∙ s .1 ∙ ap isAccepted same)
+    c .in-Continue-examined .ensures tt ∙ s ∙ ap (saying t) same
 
 pub returns-in-Err : need.returns-in-Err
 returns-in-Err g c =
@@ -45,7 +44,7 @@ returns-in-Err g c =
     let said =
     fault-said t o (length (c .args .out .now)) (c .in-Err .fault) (c .faulted .result) (c .in-Err .ensures tt .answer)
     (λ w e. always-written t law (room (c .new-sheet .result)) bs bytes o refl w (e ∙ ap (λ n. copying n o) size)) (c .faulted .ensures) in
-    cases-weaker (c .faulted .result) said (λ p e. (e .0 ∙ ap (saying t) same, e .1 ∙ ap isAccepted same)) (λ f e. e)
+    cases-weaker (c .faulted .result) said (λ p e. e ∙ ap (saying t) same) (λ f e. e)
 
-pub returns-in-Break-granted : need.returns-in-Break-granted
-returns-in-Break-granted g c = let p = err-from-errBy (c .from-residual .result) (c .from-residual .ensures .1) in rw (p .1) (p .2)
+pub returns-in-Break-examined : need.returns-in-Break-examined
+returns-in-Break-examined g c = let p = err-from-errBy (c .from-residual .result) (c .from-residual .ensures .1) in rw (p .1) (p .2)
