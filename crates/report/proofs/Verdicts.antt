@@ -10,7 +10,6 @@ use Rattle.std.specs.declared.option.Option.{Option}
 use Rattle.std.specs.declared.option.Option.the-variants.{Some, None}
 use Rattle.std.specs.declared.result.Result.{Result}
 use Rattle.std.specs.declared.result.Result.the-variants.{Ok, Err}
-use Rattle.std.proofs.shelf.Tests.{le-ltb}
 use Rattle.std.specs.shelf.Maps.{nth}
 use Rattle.refusal.specs.declared.Layer.the-variants.{Docket}
 use Rattle.item.specs.declared.item.Item.{Ghosts}
@@ -24,7 +23,8 @@ use Rattle.calls.specs.declared.fault.DocketFault.{DocketFault}
 use Rattle.calls.specs.declared.fault.DocketFault.the-variants.{NoSuchOperation, PlacedAlready, TooEarly, NotHeld, AboveBound, NothingToLift, StepsMissing, BufferTooShort}
 use Rattle.calls.specs.declared.certificate.Certificate.{Certificate}
 use Rattle.calls.specs.Faults.{docketRefusal, codeOf}
-use Rattle.calls.specs.Rules.{Run, runOf, Buffers, over, tooShort, numbersFrom, latenessesOf, certificateOf, certifyAnswer, written, unlessMissing, missing}
+use Rattle.calls.specs.Rules.{Run, runOf, Buffers, over, tooShort, latenessesOf, certificateOf, certifyAnswer, written, unlessMissing, missing}
+use Rattle.calls.proofs.Grants.{length-values, false-short}
 use Rattle.calls.proofs.Turns.{Outcome, outcome}
 use Rattle.docket.specs.Pairs.{pairedAll, pairedOf}
 use Rattle.report.specs.Lines.{upTo, stepAt, stepLine, stepLines, lateOf, lateAt, lateLines, certifiedLine}
@@ -50,15 +50,7 @@ lates-front : {I : Type 0} (os : List (Operation I)) (ls b : List ℕ) → lengt
 lates-front os ls b e =
     upTo-same (lateAt os (over ls b)) (lateAt os ls) (length os) (λ s l. ap (λ z. lateOf s z (nth os s)) (front ls b s (omega arith)))
 
-length-numbers : (i n : ℕ) → length (numbersFrom i n) ≡ n
-length-numbers i zero = refl
-length-numbers i (suc n) = ap suc (length-numbers (suc i) n)
-
 -- ---- a docket's answers
-
--- no buffer is too short
-long-enough : (b : Buffers) (n : ℕ) → n ≤ length (b .ranks) → n ≤ length (b .instants) → n ≤ length (b .latenesses) → tooShort n b ≡ false
-long-enough b n r i l = rw (le-ltb (length (b .ranks)) n r, le-ltb (length (b .instants)) n i, le-ltb (length (b .latenesses)) n l)
 
 -- a run that nothing stopped placed the whole order
 ran : (seat : SeatRule) (ops : List Paired) (k : ℕ) (xs : List ℕ) (R : Run) → Outcome seat ops k [] 0 xs R → R .stopped ≡ None → R .steps ≡ xs
@@ -117,7 +109,7 @@ module _ {I : Type 0} (t : Ghosts I) (seat : SeatRule) (os : List (Operation I))
   certificate-said b d l =
       let ops = pairedAll (t .number) os in
       let n : length (latenessesOf seat (pairedAll (t .number) os) p) ≡ length os =
-      length-map (numbersFrom 0 (length (pairedAll (t .number) os))) (λ a. lateness seat (pairedAll (t .number) os) a p) ∙ length-numbers 0 (length (pairedAll (t .number) os))
+      length-values (λ a. lateness seat (pairedAll (t .number) os) a p) 0 (length (pairedAll (t .number) os))
       ∙ length-map os (pairedOf (t .number) os) in
       let end = certifiedLine k (certificateOf seat (pairedAll (t .number) os) p) in
       ap (λ z. z ++ (lateLines os (over (latenessesOf seat (pairedAll (t .number) os) p) l) ++ end))
@@ -152,4 +144,4 @@ module _ {I : Type 0} (t : Ghosts I) (seat : SeatRule) (os : List (Operation I))
       let ps = pairedAll (t .number) os in
       let n : length (pairedAll (t .number) os) ≡ length os = length-map os (pairedOf (t .number) os) in
       let a′ : Err e ≡ certifyAnswer seat (pairedAll (t .number) os) p b = a ∙ ap (λ z. certifyAnswer seat z q b) o ∙ ap (λ z. certifyAnswer seat (pairedAll (t .number) os) z b) s in
-      refused-whole (missing ps p) (tooShort (length ps) b) (length ps) e (certificateOf seat ps p) (long-enough b (length ps) (omega arith) (omega arith) (omega arith)) a′
+      refused-whole (missing ps p) (tooShort (length ps) b) (length ps) e (certificateOf seat ps p) (false-short (length ps) b (omega arith, omega arith, omega arith)) a′

@@ -7,6 +7,7 @@ ghost use lib.ListN.{length};
 ghost use Rattle.std.specs.Of.String.{string-bytes};
 ghost use Rattle.std.specs.Vec.{made};
 ghost use Rattle.sheet.specs.Sheets.{entered};
+ghost use Rattle.order.specs.Orders.{TrueOrder};
 ghost use Rattle.docket.specs.Pairs.{pairedAll};
 ghost use Rattle.docket.specs.Tied.{Tied, opsIn, stepsIn, boundIn};
 ghost use Rattle.report.specs.Lines.{stepLines, lateLines};
@@ -126,7 +127,7 @@ fn certified<I: Item, H: Holder>(
 }
 
 // Places the order step by step on a docket with that holder, and says what came of it.
-pub fn verdict<I: Item, H: Holder + Drop>(
+fn verdict_on<I: Item, H: Holder + Drop>(
     heap: Global,
     sheet: &Sheet<I>,
     holder: H,
@@ -149,4 +150,18 @@ pub fn verdict<I: Item, H: Holder + Drop>(
         );
     }
     certified(heap, &docket, sheet, k, order)
+}
+
+// What is said of an order: a certificate exactly when it is a true order, and else the first rule that it breaks.
+pub fn verdict<I: Item, H: Holder + Drop>(
+    heap: Global,
+    sheet: &Sheet<I>,
+    holder: H,
+    k: u16,
+    order: &[u16],
+) -> Result<Report, AllocError>
+    ensures said { λ r. ⌜ made r (λ p. verdictIn p ≡ verdictOn I·Item (H·Holder .seat) (entered (now (sheet .entry))) k (now (order .entry))) ⌝ }
+    ensures granted_exactly_when_true_order { λ r. ⌜ made r (λ p. (p .granted ≡ true → TrueOrder (H·Holder .seat) (pairedAll (I·Item .number) (entered (now (sheet .entry)))) k (now (order .entry))) × (TrueOrder (H·Holder .seat) (pairedAll (I·Item .number) (entered (now (sheet .entry)))) k (now (order .entry)) → p .granted ≡ true)) ⌝ }
+{
+    verdict_on(heap, sheet, holder, k, order)
 }
