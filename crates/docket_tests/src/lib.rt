@@ -104,6 +104,23 @@ mod lists {
         None
     }
 
+    // The certificate, where one was granted, whatever the buffers hold.
+    pub fn certificate_of(slots: &[Slot]) -> Option<Certificate> {
+        for slot in slots {
+            if let Slot::Certify {
+                ranks: _,
+                instants: _,
+                latenesses: _,
+                answer,
+            } = slot {
+                if let Ok(certificate) = *answer {
+                    return Some(certificate);
+                }
+            }
+        }
+        None
+    }
+
     fn same(one: &[u16], other: &[u16]) -> bool {
         if one.len() != other.len() {
             return false;
@@ -131,6 +148,7 @@ mod lists {
 
 #[cfg(test)]
 mod tests {
+    use crate::lists::certificate_of;
     use crate::lists::during;
     use crate::lists::examination;
     use crate::lists::granted;
@@ -222,8 +240,8 @@ mod tests {
         check_eq(written, certificate(1, 1, 4))
     }
 
-    // What stops a run of 1,023 adds and a found-empty, all at one instant.
-    fn full(k: u16, rt: LibcRuntime) -> Result<Option<RefusalCode>, Fail> {
+    // What stops a run of 1,023 adds and a found-empty, all at one instant, and what certificate it gets.
+    fn full(k: u16, rt: LibcRuntime) -> Result<(Option<RefusalCode>, Option<Certificate>), Fail> {
         let mut memory = [six(0); 1024];
         let mut sheet = Sheet::new(&mut memory);
         let mut order = Vec::new(rt.alloc());
@@ -237,16 +255,20 @@ mod tests {
         let mut slots = examination(&order, rt)?;
         let docket = attend(&sheet, Queue::new(), k, &mut slots);
         drop(docket);
-        Ok(stop_of(&slots))
+        Ok((stop_of(&slots), certificate_of(&slots)))
     }
 
     #[test]
     fn found_empty_beside_as_many_as_the_bound(rt: LibcRuntime) -> Result<(), Fail> {
-        check_eq(full(1023, rt)?, Some(nothing()))
+        let (stop, written) = full(1023, rt)?;
+        check_eq(stop, Some(nothing()))?;
+        check_eq(written, certificate(1023, 1023, 1023))
     }
 
     #[test]
     fn found_empty_beside_one_too_many(rt: LibcRuntime) -> Result<(), Fail> {
-        check_eq(full(1022, rt)?, refusal(35, 1023, 1023))
+        let (stop, written) = full(1022, rt)?;
+        check_eq(stop, refusal(35, 1023, 1023))?;
+        check_eq(written, None)
     }
 }
