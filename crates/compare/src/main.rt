@@ -1,4 +1,6 @@
 // Reads a file of cases on standard input, and prints the answer to each on a line of its own.
+#![tactic(auto)]
+
 use anyhow::anyhow;
 use comparison::case::answer_case;
 use record::bytes::number_at;

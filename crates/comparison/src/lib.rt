@@ -1,4 +1,6 @@
 // Answers to cases, by which this examiner is compared with another one.
+#![tactic(auto)]
+
 pub mod case;
 mod dockets;
 mod hash;

@@ -1,4 +1,6 @@
 // The docket: an order of the operations of a sheet, placed step by step on a holder.
+#![tactic(auto)]
+
 pub mod attend;
 pub mod docket;
 mod entry;

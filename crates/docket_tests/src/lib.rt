@@ -1,4 +1,5 @@
 // Tests of dockets, through the function that attends to a list of calls.
+#![tactic(auto)]
 
 #[cfg(test)]
 mod lists {

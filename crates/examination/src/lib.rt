@@ -1,5 +1,7 @@
 // The examination: from the bytes of a trace, or a sheet and an order of its operations, to a certificate or the first rule
 // that is broken.
+#![tactic(auto)]
+
 pub mod kind;
 pub mod order;
 pub mod trace;

@@ -1,4 +1,6 @@
 // Reads a trace on standard input, and prints the certificate of its order or why it is refused.
+#![tactic(auto)]
+
 use anyhow::anyhow;
 use report::report::report_trace;
 use std::io::{Read, Write};

@@ -1,4 +1,6 @@
 // Worked examples of orders, their costs and their refusals.
+#![tactic(auto)]
+
 ghost use Rattle.examples.specs.Examples.{WorkedExamples};
 
 // The function does nothing: its contract says that every example of the list holds.

@@ -1,4 +1,6 @@
 // What callers in Rust and C can link: bytes in memory, examined.
+#![tactic(auto)]
+
 ghost use Rattle.std.specs.Prelude.{◌≡◌, length, Result};
 ghost use Rattle.calls.specs.declared.certificate.Certificate.{Certificate};
 ghost use Rattle.docket.specs.InStep.{three};

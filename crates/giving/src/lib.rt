@@ -1,5 +1,7 @@
 // Lists of codes in the order in which a strict object would give them: where a code stands, how often, and what
 // stays of the order when another code comes in or leaves.
+#![tactic(auto)]
+
 ghost use Rattle.std.specs.Prelude.{◌≡◌, ℕ, ◌<◌, ◌≤◌, length, nat_lt, slice_index};
 ghost use Rattle.std.specs.List.{insert};
 ghost use Rattle.giving.specs.Lists.{times, place, stands, Once};

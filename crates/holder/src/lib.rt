@@ -1,4 +1,6 @@
 // Strict objects: one interface, its meaning, and the queue and the stack behind it.
+#![tactic(auto)]
+
 pub mod fault;
 pub mod holder;
 pub mod queue;

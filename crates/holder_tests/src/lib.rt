@@ -1,4 +1,5 @@
 // Tests of the three kinds of holder against the plain list that each stands for.
+#![tactic(auto)]
 
 #[cfg(test)]
 mod plain {

@@ -1,4 +1,6 @@
 // Items: what a history's operations add and take.
+#![tactic(auto)]
+
 pub mod fault;
 pub mod item;
 pub mod lane;

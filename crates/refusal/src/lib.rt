@@ -1,4 +1,6 @@
 // What every refusal says, whichever layer it comes from.
+#![tactic(auto)]
+
 ghost use Rattle.std.specs.Prelude.{◌≡◌, Some};
 ghost use Rattle.refusal.specs.Wording.{layer_name, refusal_line};
 

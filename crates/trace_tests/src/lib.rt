@@ -1,4 +1,6 @@
 // Tests of items, sheet and trace: every refusal, and the limits.
+#![tactic(auto)]
+
 pub mod cases;
 
 #[cfg(test)]
