@@ -8,8 +8,8 @@ returns c =
     let a = c.args.one in
     let b = c.args.other in
     let L = c.args.list.now in
-    let e : ltb c.place-of.result c.place-of-2.result ≡ ltb (place a L) (place b L) =
-    ap (λ k. ltb k c.place-of-2.result) c.place-of.ensures.value ∙ ap (ltb (place a L)) c.place-of-2.ensures.value in
+    let e : ltb c.place_of.result c.place_of-2.result ≡ ltb (place a L) (place b L) =
+    ap (λ k. ltb k c.place_of-2.result) c.place_of.ensures.value ∙ ap (ltb (place a L)) c.place_of-2.ensures.value in
     record {
       value = e;
       kept = record {

@@ -17,7 +17,7 @@ loop-p-preserved c =
     let off = from_off q less (p - block p) i.has in
     let read = i.rest p (omega arith) in
     let some = c.requires.enough p (omega arith) (omega arith) in
-    rw c.block-len-p.ensures.value (walk_more q less c.args.more p (get_or c.loop-p.sums p 0 + c.args.more - less) c.args.sums.now c.loop-p.sums c.requires.some c.loop-p-test.true (omega arith) (omega arith) i)
+    rw c.block_len-p.ensures.value (walk_more q less c.args.more p (get_or c.loop-p.sums p 0 + c.args.more - less) c.args.sums.now c.loop-p.sums c.requires.some c.loop-p-test.true (omega arith) (omega arith) i)
 
 pub returns : goal.returns
 returns c = λ p s w. c.loop-p.invariant.done p s (omega arith) w

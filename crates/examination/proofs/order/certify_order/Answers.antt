@@ -6,11 +6,11 @@ use Rattle.examination.proofs.order.certify_order.Goals as goal
 
 pub returns : goal.returns
 returns g c =
-    let e = c.place-and-certify.ensures in
+    let e = c.place_and_certify.ensures in
     record {
       answer = e.answer;
       written = e.written;
-      granted-exactly-when-true-order =
+      granted_exactly_when_true_order =
           λ long. granted_exactly g.H.Holder.seat (sheet_ops g.row.I-Item.number c.args.sheet.now) c.args.k c.args.order.now
-          (three c.args.ranks.now c.args.instants.now c.args.latenesses.now) long c.place-and-certify.result e.answer;
+          (three c.args.ranks.now c.args.instants.now c.args.latenesses.now) long c.place_and_certify.result e.answer;
     }

@@ -20,7 +20,7 @@ returns-then-stopped-ne0 g c =
     let same = run_is g.H.Holder.seat (ops_in d) ops (bound_in d) c.args.k (steps_in d) p o.table o.bound o.steps in
     let code = (c.run.ensures.answer o.tied).1 ∙ ap (λ (z : Run). code_of z.stopped) same in
     let a = stopped_answer seat ops p b (run_of g.H.Holder.seat ops c.args.k [] 0 p).stopped c.run.result.1 (certify_answer seat ops p b) code c.if-stopped-ne0.true in
-    record { answer = ap Err c.refusal-of.ensures ∙ a.0; written = a.1 }
+    record { answer = ap Err c.refusal_of.ensures ∙ a.0; written = a.1 }
 
 pub returns : goal.returns
 returns g c =
@@ -39,4 +39,4 @@ returns g c =
     let a =
     certified_answer seat ops p b (run_of g.H.Holder.seat ops c.args.k [] 0 p).stopped (ops_in c.run.new.self) (steps_in c.run.new.self) c.certify.result
     (three c.certify.new.ranks c.certify.new.instants c.certify.new.latenesses) whole (r.table ∙ o.table) placed (e.answer (r.tied o.tied)) (e.written (r.tied o.tied)) in
-    record { answer = c.as-refusal.ensures ∙ ap refused_as a.0; written = a.1 }
+    record { answer = c.as_refusal.ensures ∙ ap refused_as a.0; written = a.1 }

@@ -13,8 +13,8 @@ returns-in-Ok g c =
     let o = reading g.row.I-Item (room c.new-sheet.result) c.args.bytes.now in
     let e = c.in-Ok.ensures in
     let same = ap (λ m. examining g.row.I-Item b (reading g.row.I-Item (min (length m) 1024) c.args.bytes.now)) c.new-sheet.ensures.memory in
-    subst (λ (x : Examined). Comes x b c.certify-accepted.result (three c.certify-accepted.new.ranks c.certify-accepted.new.instants c.certify-accepted.new.latenesses))
-    (accepted_examined t b o (entered c.new-sheet.result) (entered c.read.new.sheet) c.in-Ok.accepted e.answer e.entered ∙ same) c.certify-accepted.ensures
+    subst (λ (x : Examined). Comes x b c.certify_accepted.result (three c.certify_accepted.new.ranks c.certify_accepted.new.instants c.certify_accepted.new.latenesses))
+    (accepted_examined t b o (entered c.new-sheet.result) (entered c.read.new.sheet) c.in-Ok.accepted e.answer e.entered ∙ same) c.certify_accepted.ensures
 
 pub returns-in-Err : goal.returns-in-Err
 returns-in-Err g c =

@@ -16,7 +16,7 @@ returns c = record {
   whole = λ seat ops k p. (placed_of_true seat ops k p, true_of_placed seat ops k p);
   earliest = λ ops p ts i. (earliest_admits ops 0 0 p ts (omega arith) i, earliest_below ops 0 0 p ts (omega arith) i);
   growing = one_more;
-  adds-alone = never_late;
+  adds_alone = never_late;
   small = sizes;
   strict = λ seat ops p. (strict_of_true seat ops p, true_of_strict seat ops p);
 }

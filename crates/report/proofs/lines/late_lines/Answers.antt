@@ -3,7 +3,7 @@ use Rattle.sheet.specs.Sheets.{entered}
 use Rattle.report.specs.Lines.{late_at, late_of}
 use Rattle.report.proofs.Listings.{one_more, none_more}
 use Rattle.report.proofs.lines.late_lines.Goals as goal
-use Rattle.report.proofs.lines.late_lines.Goals.{in-Some+in-ok-line+in-ok-push-str, in-default}
+use Rattle.report.proofs.lines.late_lines.Goals.{in-Some+in_ok-line+in_ok-push_str, in_default}
 
 pub loop-number-preserved : goal.loop-number-preserved
 loop-number-preserved g c =
@@ -12,9 +12,9 @@ loop-number-preserved g c =
     let n = c.loop-number.number in
     let text = string_bytes c.loop-number.text in
     elim c.match-operation.branch [
-      | in-Some+in-ok-line+in-ok-push-str w ↦
-          one_more (late_at os lates) n text c.loop-number.invariant (string_bytes c.match-operation.text) (string_bytes w.in-ok-line.line)
-          (ap (late_of n (get_or lates n 0)) (sym w.in-Some.ensures) ∙ sym w.in-ok-line.ensures)
-          (ap string_bytes w.text-is ∙ w.in-ok-push-str.ensures.bytes ∙ ap (λ z. text ++ z) w.as-str.ensures.value)
-      | in-default w ↦ ap string_bytes w.text-is ∙ none_more (late_at os lates) n text c.loop-number.invariant (ap (late_of n (get_or lates n 0)) (sym w.in-default.ensures))
+      | in-Some+in_ok-line+in_ok-push_str w ↦
+          one_more (late_at os lates) n text c.loop-number.invariant (string_bytes c.match-operation.text) (string_bytes w.in_ok-line.line)
+          (ap (late_of n (get_or lates n 0)) (sym w.in-Some.ensures) ∙ sym w.in_ok-line.ensures)
+          (ap string_bytes w.text-is ∙ w.in_ok-push_str.ensures.bytes ∙ ap (λ z. text ++ z) w.as_str.ensures.value)
+      | in_default w ↦ ap string_bytes w.text-is ∙ none_more (late_at os lates) n text c.loop-number.invariant (ap (late_of n (get_or lates n 0)) (sym w.in_default.ensures))
     ]

@@ -16,8 +16,8 @@ returns-then-ne g c =
     absurd (never_differs c.copy.new.out c.args.bytes.now c.args.out.now c.ne.result c.ne.ensures.0 c.ne.ensures.1 c.ne.ensures.2
     c.in-Ok.ensures.written-back-is-its-own-bytes c.requires c.if-ne.true)
 
-pub returns-in-ok-examined : goal.returns-in-ok-examined
-returns-in-ok-examined g c =
+pub returns-in_ok-examined : goal.returns-in_ok-examined
+returns-in_ok-examined g c =
     let t = g.row.I-Item in
     let bs = c.args.bytes.now in
     let e = c.in-Ok.ensures in
@@ -25,7 +25,7 @@ returns-in-ok-examined g c =
     let s =
     examined_said t (reading g.row.I-Item (room c.new-sheet.result) bs) (entered c.new-sheet.result) (entered c.copy.new.sheet) (length c.args.out.now) c.in-Ok.accepted
     e.answer e.entered in
-    c.in-ok-examined.ensures ∙ s ∙ ap (saying t) same
+    c.in_ok-examined.ensures ∙ s ∙ ap (saying t) same
 
 pub returns-in-Err : goal.returns-in-Err
 returns-in-Err g c =
@@ -42,5 +42,5 @@ returns-in-Err g c =
     (λ w e. always_written t law (room c.new-sheet.result) bs bytes o refl w (e ∙ ap (λ n. copying n o) size)) c.faulted.ensures in
     MatchResult-weaker c.faulted.result said (λ p e. e ∙ ap (saying t) same) (λ f e. e)
 
-pub returns-in-err-examined : goal.returns-in-err-examined
-returns-in-err-examined g c = let p = err_from_is_err_and c.from-residual.result c.from-residual.ensures.1 in rw p.1 p.2
+pub returns-in_err-examined : goal.returns-in_err-examined
+returns-in_err-examined g c = let p = err_from_is_err_and c.from-residual.result c.from-residual.ensures.1 in rw p.1 p.2

@@ -7,8 +7,8 @@ use Rattle.report.proofs.verdict.verdict.Goals as goal
 pub returns : goal.returns
 returns g c =
     record {
-      said = c.verdict-on.ensures;
-      granted-exactly-when-true-order =
-          IfOk-weaker c.verdict-on.result _ _
-          (λ p e. granted_exactly g.row.I-Item g.H.Holder.seat (entered c.args.sheet.now) c.args.k c.args.order.now (verdict_in p) e) c.verdict-on.ensures;
+      said = c.verdict_on.ensures;
+      granted_exactly_when_true_order =
+          IfOk-weaker c.verdict_on.result _ _
+          (λ p e. granted_exactly g.row.I-Item g.H.Holder.seat (entered c.args.sheet.now) c.args.k c.args.order.now (verdict_in p) e) c.verdict_on.ensures;
     }

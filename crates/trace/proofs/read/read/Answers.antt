@@ -12,10 +12,10 @@ returns g c =
     let law : Lawful g.row.I-Item = record { coded = met.coded; small = met.small; there = met.there; back = met.back } in
     let bs = c.args.bytes.now in
     let bytes : Bytes c.args.bytes.now = λ i. omega (arith, c.type-inv.bytes i) in
-    let e = c.read-parts.ensures in
+    let e = c.read_parts.ensures in
     let old = entered c.args.sheet.now in
-    let os = entered c.read-parts.new.sheet in
-    let r = c.read-parts.result in
+    let os = entered c.read_parts.new.sheet in
+    let r = c.read_parts.result in
     let n = room c.args.sheet.now in
     record {
       answer = e.answer;
@@ -23,7 +23,7 @@ returns g c =
       memory = e.memory;
       room = e.room;
       lender = e.lender;
-      accepted-is-sound = sound_answer t law n bs bytes r old os e.answer e.entered;
-      accepted-is-encoded = encoded_answer t law n bs bytes r old os e.answer e.entered;
-      encoded-sound-is-accepted = exact_answer t law n bs r old os e.answer e.entered;
+      accepted_is_sound = sound_answer t law n bs bytes r old os e.answer e.entered;
+      accepted_is_encoded = encoded_answer t law n bs bytes r old os e.answer e.entered;
+      encoded_sound_is_accepted = exact_answer t law n bs r old os e.answer e.entered;
     }

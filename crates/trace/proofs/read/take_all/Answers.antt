@@ -24,7 +24,7 @@ returns-in-Err g c =
     let bs = c.args.trace.now.bytes.now in
     let i = c.loop-rec.place in
     let s = c.loop-rec.sheet in
-    let fin = entered c.take-record.new.sheet in
+    let fin = entered c.take_record.new.sheet in
     let h = handed_out i (record_count bs) _ (record_at i bs) c.in-Some.ensures in
     let e = c.in-Err.ensures in
     record {
@@ -42,10 +42,10 @@ loop-rec-preserved g c =
     let bs = c.args.trace.now.bytes.now in
     let i = c.loop-rec.place in
     let s = c.loop-rec.sheet in
-    let fin = entered c.take-record.new.sheet in
+    let fin = entered c.take_record.new.sheet in
     let h = handed_out i (record_count bs) _ (record_at i bs) c.in-Some.ensures in
     let l = h.0 in
-    let e = c.in-default-take-record.ensures in (
+    let e = c.in_default-take_record.ensures in (
       turn g.row.I-Item (room c.args.sheet.now) bs i (room s) (entered s) c.in-Some.rec.now _ c.loop-rec.invariant.0 c.loop-rec.invariant.1 h.1 (e.step i),
       e.room ∙ c.loop-rec.invariant.1,
       e.memory ∙ ap (filled fin) c.loop-rec.invariant.2 ∙ filled_twice (entered s) fin (memory c.args.sheet.now) e.grows,
@@ -63,7 +63,7 @@ pub returns : goal.returns
 returns g c =
     let bs = c.args.trace.now.bytes.now in
     let i = c.loop-rec.place in
-    let h = none_left i (record_count bs) (record_at i bs) c.in-default.ensures in
+    let h = none_left i (record_count bs) (record_at i bs) c.in_default.ensures in
     let k = c.loop-rec.invariant.4 in
     let e : record_count c.args.trace.now.bytes.now ≡ c.loop-rec.place = omega arith in
     record {

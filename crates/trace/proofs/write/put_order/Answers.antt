@@ -18,7 +18,7 @@ loop-i-preserved c =
     let t : take (i + 1) order ≡ take i order ++ x ∷ [] = take_more order i 0 c.loop-i-test.true in
     let small : x < 2 ^ 16 = search rules in (
       laid (big 2) 2 (length_big 2) c.args.at c.args.out.now order c.loop-i.out c.paste.new.out _ i x
-          room c.loop-i-test.true (get_or_default order i 0 x c.loop-i-test.true) (c.to-be-bytes.ensures ∙ sym (big_two x)) c.loop-i.invariant.0 c.paste.ensures,
+          room c.loop-i-test.true (get_or_default order i 0 x c.loop-i-test.true) (c.to_be_bytes.ensures ∙ sym (big_two x)) c.loop-i.invariant.0 c.paste.ensures,
       subst Small (sym t) (small_push (take i order) x c.loop-i.invariant.1 small),
     )
 

@@ -20,16 +20,16 @@ returns g c =
     let mem = c.args.out.now in
     let n : length ops ≡ length (entered c.args.sheet.now) = ap length items in
     let bytes =
-    whole t c.type-code.result kind k ops order c.header-bytes.result mem c.paste.new.out c.put-records.new.out c.put-order.new.out
-    c.type-code.ensures c.if-order-ops.false c.header-bytes.ensures c.paste.ensures c.put-records.ensures.bytes c.put-order.ensures.bytes
+    whole t c.type_code.result kind k ops order c.header_bytes.result mem c.paste.new.out c.put_records.new.out c.put_order.new.out
+    c.type_code.ensures c.if-order-ops.false c.header_bytes.ensures c.paste.ensures c.put_records.ensures.bytes c.put_order.ensures.bytes
     ∙ ap (λ z. encode t (contents kind k z order) ++ drop (8 + 26 * length z) mem) items in
-    let fits = subst (AllFit t) items c.put-records.ensures.fit in
+    let fits = subst (AllFit t) items c.put_records.ensures.fit in
     let few : length (entered c.args.sheet.now) ≤ 1024 = omega (arith, c.all-ops.ensures.few) in
     let consistent = ∥∥₁_map c.all-ops.ensures.consistent (subst (Consistent []) items) in
     record {
       answer = answering kind (length (entered c.args.sheet.now)) (length order) (length mem) c.if-kind-gt2.false (c.if-order-ops.false ∙ n) (omega arith);
       bytes = bytes;
-      reads-as-what-went-in =
-          reads_back t law kind k (entered c.args.sheet.now) order c.put-order.new.out (drop (8 + 26 * length (entered c.args.sheet.now)) mem)
-          c.if-kind-gt2.false (omega arith) few (c.if-order-ops.false ∙ n) c.put-order.ensures.small fits consistent bytes;
+      reads_as_what_went_in =
+          reads_back t law kind k (entered c.args.sheet.now) order c.put_order.new.out (drop (8 + 26 * length (entered c.args.sheet.now)) mem)
+          c.if-kind-gt2.false (omega arith) few (c.if-order-ops.false ∙ n) c.put_order.ensures.small fits consistent bytes;
     }

@@ -8,12 +8,12 @@ returns g c =
     let s = g.G.Holder.seat in
     let t = g.H.Holder.seat in
     let all = c.args.turns.now in
-    let e = c.answer-all.ensures.answers in
+    let e = c.answer_all.ensures.answers in
     record {
       answers = e;
-      alike = λ same. c.answers-agree.ensures.told (subst (Answered t (meaning [] 0)) (sym (alike s t same (meaning [] 0) all).0 ∙ sym e) (written t (meaning [] 0) all));
-      agreed = λ yes. sym (answered_twice t s (meaning [] 0) (meaning [] 0) all) ∙ ap (answered t (meaning [] 0)) (sym e) ∙ rewritten t (meaning [] 0) _ (c.answers-agree.ensures.agreed yes) ∙ e;
-      left = c.answer-all.ensures.left;
-      right = c.answers-agree.ensures.left ∙ ap (after_all t (meaning [] 0)) e ∙ left_twice t s (meaning [] 0) (meaning [] 0) all;
+      alike = λ same. c.answers_agree.ensures.told (subst (Answered t (meaning [] 0)) (sym (alike s t same (meaning [] 0) all).0 ∙ sym e) (written t (meaning [] 0) all));
+      agreed = λ yes. sym (answered_twice t s (meaning [] 0) (meaning [] 0) all) ∙ ap (answered t (meaning [] 0)) (sym e) ∙ rewritten t (meaning [] 0) _ (c.answers_agree.ensures.agreed yes) ∙ e;
+      left = c.answer_all.ensures.left;
+      right = c.answers_agree.ensures.left ∙ ap (after_all t (meaning [] 0)) e ∙ left_twice t s (meaning [] 0) (meaning [] 0) all;
       law = alike;
     }

@@ -7,7 +7,7 @@ loop-i-init g c = going_start g.H.Holder.seat _ c.args.turns.now (cleared _ _ c.
 
 pub loop-i-preserved : goal.loop-i-preserved
 loop-i-preserved g c =
-    going_more g.H.Holder.seat _ _ c.loop-i.i c.answer-to.result c.loop-i.turns c.args.turns.now (omega arith) c.answer-to.ensures.answer c.answer-to.ensures.left c.loop-i.invariant
+    going_more g.H.Holder.seat _ _ c.loop-i.i c.answer_to.result c.loop-i.turns c.args.turns.now (omega arith) c.answer_to.ensures.answer c.answer_to.ensures.left c.loop-i.invariant
 
 pub returns : goal.returns
 returns g c =

@@ -24,7 +24,7 @@ returns-then-ranks-n g c =
       | then-ranks-n-via-else-ranks-n+then-instants-n w ↦ inr (inl w.if-instants-n.true)
       | then-ranks-n-via-else-ranks-n+else-instants-n+then-latenesses-n w ↦ inr (inr w.if-latenesses-n.true)
     ]) in
-    record { answer = λ i. cert_short g.H.Holder.seat l b c.in-default.ensures s; written = λ i. cert_left g.H.Holder.seat l b (BufferTooShort l.count) }
+    record { answer = λ i. cert_short g.H.Holder.seat l b c.in_default.ensures s; written = λ i. cert_left g.H.Holder.seat l b (BufferTooShort l.count) }
 
 pub returns : goal.returns
 returns g c =
@@ -33,6 +33,6 @@ returns g c =
     let s : (ltb (length b.ranks) l.count || (ltb (length b.instants) l.count || ltb (length b.latenesses) l.count)) ≡ false =
     or_from _ _ (le-ltb _ _ c.if-ranks-n.false) (or_from _ _ (le-ltb _ _ c.if-instants-n.false) (le-ltb _ _ c.if-latenesses-n.false)) in
     record {
-      answer = λ i. cert_ok g.H.Holder.seat l b c.sum-up.result _ _ c.in-default.ensures s c.sum-up.ensures i;
-      written = λ i. cert_written g.H.Holder.seat l _ _ _ _ _ _ c.sum-up.result _ _ c.write-ranks.ensures c.write-instants.ensures c.write-latenesses.ensures i;
+      answer = λ i. cert_ok g.H.Holder.seat l b c.sum_up.result _ _ c.in_default.ensures s c.sum_up.ensures i;
+      written = λ i. cert_written g.H.Holder.seat l _ _ _ _ _ _ c.sum_up.result _ _ c.write_ranks.ensures c.write_instants.ensures c.write_latenesses.ensures i;
     }

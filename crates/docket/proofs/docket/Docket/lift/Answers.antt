@@ -12,8 +12,8 @@ returns-then-self-eq0 g c =
 pub invariant-of-self : goal.invariant-of-self
 invariant-of-self g c =
     let u = c.unmark-x.new.ledger in (
-      (c.move-latenesses.auto.entries ∙ u.full.0, u.full.1, u.full.2),
-      (u.few, (u.known, (u.once, ((λ x h. flag_kept false u.entries c.move-latenesses.new.entries _ x c.move-latenesses.ensures ∙ u.flagged x h), tt)))),
+      (c.move_latenesses.auto.entries ∙ u.full.0, u.full.1, u.full.2),
+      (u.few, (u.known, (u.once, ((λ x h. flag_kept false u.entries c.move_latenesses.new.entries _ x c.move_latenesses.ensures ∙ u.flagged x h), tt)))),
     )
 
 pub returns : goal.returns
@@ -22,5 +22,5 @@ returns g c =
     let u = c.unmark-x.new.ledger in
     let e = c.unmark-x.ensures in
     let pos : 0 < l.placed = omega (arith, c.if-self-eq0.false) in
-    let w = lifted g.H.Holder.seat l u _ _ _ _ _ pos e.step e.rank e.entries e.steps e.ranks e.placed e.count c.move-latenesses.ensures refl refl refl refl c.replay.ensures _ _ in
+    let w = lifted g.H.Holder.seat l u _ _ _ _ _ pos e.step e.rank e.entries e.steps e.ranks e.placed e.count c.move_latenesses.ensures refl refl refl refl c.replay.ensures _ _ in
     record { answer = w.1; tied = w.0; steps = w.2; table = w.3; bound = e.bound; refused = λ f. absurd (not_both f) }

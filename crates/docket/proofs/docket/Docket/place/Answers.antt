@@ -13,15 +13,15 @@ bounds-self-operation g c = let o = judged_ok _ _ _ _ _ _ _ c.in-Ok.rank c.in-Ok
 pub invariant-of-self : goal.invariant-of-self
 invariant-of-self g c =
     let l = c.args.self.now.ledger in (
-      (c.move-latenesses.auto.entries ∙ l.full.0, l.full.1, l.full.2),
-      (l.few, (l.known, (l.once, ((λ x h. flag_kept true l.entries c.move-latenesses.new.entries _ x c.move-latenesses.ensures ∙ l.flagged x h), tt)))),
+      (c.move_latenesses.auto.entries ∙ l.full.0, l.full.1, l.full.2),
+      (l.few, (l.known, (l.once, ((λ x h. flag_kept true l.entries c.move_latenesses.new.entries _ x c.move_latenesses.ensures ∙ l.flagged x h), tt)))),
     )
 
 pub mark-requires : goal.mark-requires
 mark-requires g c =
     let l = c.args.self.now.ledger in
     let o = judged_ok _ _ _ _ _ _ _ c.in-Ok.rank c.in-Ok.ensures in
-    record { within = o.0; new = flag_kept true l.entries c.move-latenesses.new.entries _ c.args.operation c.move-latenesses.ensures ∙ o.1 }
+    record { within = o.0; new = flag_kept true l.entries c.move_latenesses.new.entries _ c.args.operation c.move_latenesses.ensures ∙ o.1 }
 
 pub returns-in-Err : goal.returns-in-Err
 returns-in-Err g c = record {
@@ -42,7 +42,7 @@ returns-in-Ok g c =
     let x = c.args.operation in
     let r = c.in-Ok.rank in
     let o = judged_ok _ _ _ _ _ _ _ r c.in-Ok.ensures in
-    let es : m.entries ≡ changed_at (with_flag true) (changed_all (moved_by true) l.entries (take r L)) x = c.mark.ensures.entries ∙ ap (λ (v : List Entry). changed_at (with_flag true) v x) c.move-latenesses.ensures in
+    let es : m.entries ≡ changed_at (with_flag true) (changed_all (moved_by true) l.entries (take r L)) x = c.mark.ensures.entries ∙ ap (λ (v : List Entry). changed_at (with_flag true) v x) c.move_latenesses.ensures in
     let e = c.mark.ensures in
     record {
       answer = λ i. c.in-Ok.ensures ∙ judged_is seat l _ _ x i;

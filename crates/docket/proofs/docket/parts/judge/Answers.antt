@@ -16,12 +16,12 @@ returns-in-Some g c =
 
 pub returns-in-None : goal.returns-in-None
 returns-in-None g c =
-    sym (judged_ready _ _ _ _ _ _ _ c.if-x-ledger.false c.if-e.false (sym c.in-default.ensures) ∙ ap (judged_rank _ _) (sym c.in-None.ensures))
+    sym (judged_ready _ _ _ _ _ _ _ c.if-x-ledger.false c.if-e.false (sym c.in_default.ensures) ∙ ap (judged_rank _ _) (sym c.in-None.ensures))
 
 pub returns-then-r-ledger : goal.returns-then-r-ledger
 returns-then-r-ledger g c =
-    sym (judged_ready _ _ _ _ _ _ _ c.if-x-ledger.false c.if-e.false (sym c.in-default.ensures) ∙ ap (judged_rank _ _) (sym c.in-Some-rank-of.ensures) ∙ cond-true _ _ _ (lt-ltb _ _ c.if-r-ledger.true))
+    sym (judged_ready _ _ _ _ _ _ _ c.if-x-ledger.false c.if-e.false (sym c.in_default.ensures) ∙ ap (judged_rank _ _) (sym c.in-Some-rank_of.ensures) ∙ cond-true _ _ _ (lt-ltb _ _ c.if-r-ledger.true))
 
 pub returns-else-r-ledger : goal.returns-else-r-ledger
 returns-else-r-ledger g c =
-    sym (judged_ready _ _ _ _ _ _ _ c.if-x-ledger.false c.if-e.false (sym c.in-default.ensures) ∙ ap (judged_rank _ _) (sym c.in-Some-rank-of.ensures) ∙ cond-false _ _ _ (le-ltb _ _ c.if-r-ledger.false))
+    sym (judged_ready _ _ _ _ _ _ _ c.if-x-ledger.false c.if-e.false (sym c.in_default.ensures) ∙ ap (judged_rank _ _) (sym c.in-Some-rank_of.ensures) ∙ cond-false _ _ _ (le-ltb _ _ c.if-r-ledger.false))

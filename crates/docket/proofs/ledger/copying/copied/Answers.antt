@@ -35,7 +35,7 @@ loop-number-preserved g c =
         (λ x. ap (λ fs. (entry_of fs x).placed) w.entries-is ∙ keeps_fresh (λ (e : Entry). e.placed) false es i x w.in-Some.found refl (v.2 x)),
         (λ x. ap (λ fs. (entry_of fs x).late) w.entries-is ∙ keeps_fresh {Y = ℕ} (λ (e : Entry). e.late) 0 es i x w.in-Some.found refl (v.3 x)),
       )
-      | goal.in-default w ↦ absurd (there qs i within w.in-default.ensures)
+      | goal.in_default w ↦ absurd (there qs i within w.in_default.ensures)
     ]
 
 pub returns : goal.returns

@@ -7,8 +7,8 @@ use Rattle.docket.specs.Pairs.{deed_by}
 use Rattle.docket.proofs.Pairings.{at_most, pair_within, paired_none, paired_some, pair_of_take}
 use Rattle.docket.proofs.ledger.copying.paired.Goals as goal
 
-pub returns-in-err-operation : goal.returns-in-err-operation
-returns-in-err-operation g c = c.from-residual.ensures ∙ paired_none g.row.I-Item.number (entered c.args.sheet.now) c.args.number c.in-err-operation.ensures
+pub returns-in_err-operation : goal.returns-in_err-operation
+returns-in_err-operation g c = c.from-residual.ensures ∙ paired_none g.row.I-Item.number (entered c.args.sheet.now) c.args.number c.in_err-operation.ensures
 
 pub overflow-cast-deed : goal.overflow-cast-deed
 overflow-cast-deed g c =
@@ -17,21 +17,21 @@ overflow-cast-deed g c =
     omega (arith, w, at_most s)
 
 pub returns-in-Add : goal.returns-in-Add
-returns-in-Add g c = paired_some g.row.I-Item.number (entered c.args.sheet.now) c.args.number c.in-ok-operation.operation _ _ c.in-ok-operation.ensures c.in-Add.is refl
+returns-in-Add g c = paired_some g.row.I-Item.number (entered c.args.sheet.now) c.args.number c.in_ok-operation.operation _ _ c.in_ok-operation.ensures c.in-Add.is refl
 
 pub returns-in-Some : goal.returns-in-Some
 returns-in-Some g c =
     let os = entered c.args.sheet.now in
-    let e = c.in-ok-operation.ensures in
-    paired_some g.row.I-Item.number os c.args.number c.in-ok-operation.operation _ _ e c.in-Take.is
+    let e = c.in_ok-operation.ensures in
+    paired_some g.row.I-Item.number os c.args.number c.in_ok-operation.operation _ _ e c.in-Take.is
     (ap (deed_by (method.Take c.in-Take.field-0)) (pair_of_take g.row.I-Item.number os c.args.number _ _ _ e c.in-Take.is c.in-Some.ensures.answer))
 
 pub returns-in-None : goal.returns-in-None
 returns-in-None g c =
     let os = entered c.args.sheet.now in
-    let e = c.in-ok-operation.ensures in
-    paired_some g.row.I-Item.number os c.args.number c.in-ok-operation.operation _ _ e c.in-Take.is
+    let e = c.in_ok-operation.ensures in
+    paired_some g.row.I-Item.number os c.args.number c.in_ok-operation.operation _ _ e c.in-Take.is
     (ap (deed_by (method.Take c.in-Take.field-0)) (pair_of_take g.row.I-Item.number os c.args.number _ _ _ e c.in-Take.is c.in-None.ensures.answer))
 
 pub returns-in-FoundEmpty : goal.returns-in-FoundEmpty
-returns-in-FoundEmpty g c = paired_some g.row.I-Item.number (entered c.args.sheet.now) c.args.number c.in-ok-operation.operation _ _ c.in-ok-operation.ensures c.in-FoundEmpty.is refl
+returns-in-FoundEmpty g c = paired_some g.row.I-Item.number (entered c.args.sheet.now) c.args.number c.in_ok-operation.operation _ _ c.in_ok-operation.ensures c.in-FoundEmpty.is refl

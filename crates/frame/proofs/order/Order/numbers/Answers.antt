@@ -16,9 +16,9 @@ loop-i-preserved c =
     let i = c.loop-i.i in
     let l = length_numbers (length c.args.self.now.bytes.now / 2) c.args.self.now.bytes.now in
     let h : c.loop-i.i < length (order_of c.args.self.now) = omega arith in
-    let x : c.number-at.result ≡ get_or (order_of c.args.self.now) c.loop-i.i 0 =
-    (c.number-at.ensures.narrow (omega arith)).0 ∙ sym (number_at_place (length bs / 2) i bs (omega arith)) in
-    c.in-ok-push.ensures.items ∙ ap (λ z. z ++ c.number-at.result ∷ []) c.loop-i.invariant ∙ ap (λ n. take i all ++ n ∷ []) x
+    let x : c.number_at.result ≡ get_or (order_of c.args.self.now) c.loop-i.i 0 =
+    (c.number_at.ensures.narrow (omega arith)).0 ∙ sym (number_at_place (length bs / 2) i bs (omega arith)) in
+    c.in_ok-push.ensures.items ∙ ap (λ z. z ++ c.number_at.result ∷ []) c.loop-i.invariant ∙ ap (λ n. take i all ++ n ∷ []) x
     ∙ sym (take_more all i 0 h)
 
 pub returns : goal.returns

@@ -12,8 +12,8 @@ invariant-of-self c =
     let r = c.args.self.now in
     let n = length-take-le r.len r.codes (omega arith) in
     let M = remove (row_list r) c.args.i in
-    let left = row_removed r c.copy-within.new.self c.args.i c.requires c.copy-within.ensures.after in (
-      c.copy-within.ensures.len ∙ r.long,
+    let left = row_removed r c.copy_within.new.self c.args.i c.requires c.copy_within.ensures.after in (
+      c.copy_within.ensures.len ∙ r.long,
       (
         subst Once (sym left) (once_fewer (row_list r) M (λ a. times_removed a c.args.i (row_list r)) r.once),
         (
@@ -24,4 +24,4 @@ invariant-of-self c =
     )
 
 pub returns : goal.returns
-returns c = record { list = row_removed c.args.self.now c.copy-within.new.self c.args.i c.requires c.copy-within.ensures.after; count = refl }
+returns c = record { list = row_removed c.args.self.now c.copy_within.new.self c.args.i c.requires c.copy_within.ensures.after; count = refl }

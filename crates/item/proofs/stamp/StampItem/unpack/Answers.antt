@@ -7,6 +7,6 @@ pub returns-then-case-eq1 : goal.returns-then-case-eq1
 returns-then-case-eq1 c =
     let n = c.args.n in
     let rest = c.args.n % 2 ^ 32 in
-    let lane = c.in-ok-new.field-0 in
-    let named = in_lane (n / 2 ^ 38) (n / 2 ^ 32 % 64) rest lane c.if-case-eq1.true (omega arith) c.in-ok-new.ensures in
+    let lane = c.in_ok-new.field-0 in
+    let named = in_lane (n / 2 ^ 38) (n / 2 ^ 32 % 64) rest lane c.if-case-eq1.true (omega arith) c.in_ok-new.ensures in
     record { named = named; exact = stamp_back n (InLane lane rest) (sym named) }

@@ -7,6 +7,6 @@ pub returns : goal.returns
 returns g c =
     let os = entered c.args.self.now in
     record {
-      answer = c.find-pair.ensures;
-      lowest-add-of-the-item = pairs g.row.I-Item.number os (slice_get os c.args.number) c.find-pair.result c.find-pair.ensures;
+      answer = c.find_pair.ensures;
+      lowest_add_of_the_item = pairs g.row.I-Item.number os (slice_get os c.args.number) c.find_pair.result c.find_pair.ensures;
     }
