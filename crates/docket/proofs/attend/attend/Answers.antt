@@ -9,7 +9,7 @@ use Rattle.docket.proofs.attend.attend.Goals as goal
 pub returns : goal.returns
 returns g c =
     let seat = g.H.Holder.seat in
-    let ops = sheet_ops g.row.I-Item.number c.args.sheet.now in
+    let ops = sheet_ops g.I.Item.number c.args.sheet.now in
     let k = c.args.k in
     let cs : List Call = map call_of c.args.slots.now in
     let o = c.open-docket.ensures in

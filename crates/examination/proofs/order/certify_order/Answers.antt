@@ -11,6 +11,6 @@ returns g c =
       answer = e.answer;
       written = e.written;
       granted_exactly_when_true_order =
-          λ long. granted_exactly g.H.Holder.seat (sheet_ops g.row.I-Item.number c.args.sheet.now) c.args.k c.args.order.now
+          λ long. granted_exactly g.H.Holder.seat (sheet_ops g.I.Item.number c.args.sheet.now) c.args.k c.args.order.now
           (three c.args.ranks.now c.args.instants.now c.args.latenesses.now) long c.place_and_certify.result e.answer;
     }

@@ -7,11 +7,11 @@ use Rattle.record.proofs.decoding.decode.Goals as goal
 pub returns : goal.returns
 returns g c =
     let answer =
-    decoded g.row.I-Item c.args.bytes.now c.number_at-word.result c.number_at-thread.result c.number_at-start.result c.number_at-end.result
+    decoded g.I.Item c.args.bytes.now c.number_at-word.result c.number_at-thread.result c.number_at-start.result c.number_at-end.result
     c.in_ok-method.method (c.number_at-word.ensures.narrow (omega arith)).0 (c.number_at-thread.ensures.narrow (omega arith)).0
     (c.number_at-start.ensures.narrow (omega arith)).0 (c.number_at-end.ensures.narrow (omega arith)).0 (omega arith) (omega arith)
     c.in_ok-method.ensures in
     let met = g.met.I.Item in
-    let law : Lawful g.row.I-Item = record { coded = met.coded; small = met.small; there = met.there; back = met.back } in
+    let law : Lawful g.I.Item = record { coded = met.coded; small = met.small; there = met.there; back = met.back } in
     let bytes : Bytes c.args.bytes.now = λ i. omega (arith, c.type-inv.bytes i) in
-    record { answer = answer; written_the_same = λ l. (record_back g.row.I-Item law c.args.bytes.now _ bytes l (sym answer)).0 }
+    record { answer = answer; written_the_same = λ l. (record_back g.I.Item law c.args.bytes.now _ bytes l (sym answer)).0 }

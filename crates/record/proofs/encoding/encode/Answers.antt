@@ -9,7 +9,7 @@ pub returns : goal.returns
 returns g c =
     let op = c.args.op.now in
     let met = g.met.I.Item in
-    let law : Lawful g.row.I-Item = record { coded = met.coded; small = met.small; there = met.there; back = met.back } in
-    let fit : Fit g.row.I-Item c.args.op.now = record { method = c.word_of.ensures.fit; thread = omega arith; start = omega arith; end = omega arith } in
+    let law : Lawful g.I.Item = record { coded = met.coded; small = met.small; there = met.there; back = met.back } in
+    let fit : Fit g.I.Item c.args.op.now = record { method = c.word_of.ensures.fit; thread = omega arith; start = omega arith; end = omega arith } in
     let bytes = c.lay_out.ensures ∙ ap (λ w. big 6 w ++ big 2 op.thread ++ big 8 op.start ++ big 8 op.end) c.word_of.ensures.word in
-    record { bytes = bytes; fit = fit; says_the_operation = ap (decode_record g.row.I-Item) bytes ∙ record_there g.row.I-Item law op fit }
+    record { bytes = bytes; fit = fit; says_the_operation = ap (decode_record g.I.Item) bytes ∙ record_there g.I.Item law op fit }

@@ -18,24 +18,24 @@ returns-then-ne g c =
 
 pub returns-in_ok-examined : goal.returns-in_ok-examined
 returns-in_ok-examined g c =
-    let t = g.row.I-Item in
+    let t = g.I.Item in
     let bs = c.args.bytes.now in
     let e = c.in-Ok.ensures in
-    let same = ap (λ m. reading g.row.I-Item (min (length m) 1024) c.args.bytes.now) c.new-sheet.ensures.memory in
+    let same = ap (λ m. reading g.I.Item (min (length m) 1024) c.args.bytes.now) c.new-sheet.ensures.memory in
     let s =
-    examined_said t (reading g.row.I-Item (room c.new-sheet.result) bs) (entered c.new-sheet.result) (entered c.copy.new.sheet) (length c.args.out.now) c.in-Ok.accepted
+    examined_said t (reading g.I.Item (room c.new-sheet.result) bs) (entered c.new-sheet.result) (entered c.copy.new.sheet) (length c.args.out.now) c.in-Ok.accepted
     e.answer e.entered in
     c.in_ok-examined.ensures ∙ s ∙ ap (saying t) same
 
 pub returns-in-Err : goal.returns-in-Err
 returns-in-Err g c =
-    let t = g.row.I-Item in
+    let t = g.I.Item in
     let met = g.met.I.Item in
-    let law : Lawful g.row.I-Item = record { coded = met.coded; small = met.small; there = met.there; back = met.back } in
+    let law : Lawful g.I.Item = record { coded = met.coded; small = met.small; there = met.there; back = met.back } in
     let bs = c.args.bytes.now in
     let bytes : Bytes c.args.bytes.now = λ i. omega (arith, c.type-inv.bytes i) in
-    let same = ap (λ m. reading g.row.I-Item (min (length m) 1024) c.args.bytes.now) c.new-sheet.ensures.memory in
-    let o = reading g.row.I-Item (room c.new-sheet.result) c.args.bytes.now in
+    let same = ap (λ m. reading g.I.Item (min (length m) 1024) c.args.bytes.now) c.new-sheet.ensures.memory in
+    let o = reading g.I.Item (room c.new-sheet.result) c.args.bytes.now in
     let size : length c.args.out.now ≡ length c.args.bytes.now = c.requires in
     let said =
     fault_said t o (length c.args.out.now) c.in-Err.fault c.faulted.result c.in-Err.ensures.answer

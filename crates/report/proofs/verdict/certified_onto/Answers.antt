@@ -14,7 +14,7 @@ returns-in_ok-last g c =
     let b = three c.args.ranks.now c.args.instants.now c.args.latenesses.now in
     IfOk-weaker c.granted.result _ _
     (λ p h.
-    granted_said g.row.I-Item g.H.Holder.seat (entered c.args.sheet.now) c.args.k c.args.order.now (string_bytes p.text) c.certify.new.ranks c.certify.new.instants
+    granted_said g.I.Item g.H.Holder.seat (entered c.args.sheet.now) c.args.k c.args.order.now (string_bytes p.text) c.certify.new.ranks c.certify.new.instants
     c.certify.new.latenesses c.as_str.result.now p.granted b (ops_in d) (steps_in d) c.in-Ok.certificate c.requires.table c.requires.steps (e.answer c.requires.tied)
     (e.written c.requires.tied) (c.as_str.ensures.value ∙ c.in_ok-last.ensures) h.0 h.1)
     c.granted.ensures
@@ -26,6 +26,6 @@ returns-in-Err g c =
     IfOk-weaker c.refused.result _ _
     (λ p h.
     h ∙ ap refusing c.refusal.ensures
-    ∙ refused_said g.row.I-Item g.H.Holder.seat (entered c.args.sheet.now) c.args.k c.args.order.now c.in-Err.fault b (ops_in d) (steps_in d) c.requires.table c.requires.steps
+    ∙ refused_said g.I.Item g.H.Holder.seat (entered c.args.sheet.now) c.args.k c.args.order.now c.in-Err.fault b (ops_in d) (steps_in d) c.requires.table c.requires.steps
     c.requires.ranks.0 c.requires.instants.0 c.requires.latenesses.0 (c.in-Err.ensures.answer c.requires.tied))
     c.refused.ensures

@@ -10,5 +10,5 @@ returns g c =
       said = c.verdict_on.ensures;
       granted_exactly_when_true_order =
           IfOk-weaker c.verdict_on.result _ _
-          (λ p e. granted_exactly g.row.I-Item g.H.Holder.seat (entered c.args.sheet.now) c.args.k c.args.order.now (verdict_in p) e) c.verdict_on.ensures;
+          (λ p e. granted_exactly g.I.Item g.H.Holder.seat (entered c.args.sheet.now) c.args.k c.args.order.now (verdict_in p) e) c.verdict_on.ensures;
     }

@@ -16,8 +16,8 @@ certified-requires g c =
     let r = c.run.ensures in
     let d = c.open-docket.result in
     let order = c.args.order.now in
-    let ops = paired_all g.row.I-Item.number (entered c.args.sheet.now) in
-    let same : running g.H.Holder c.open-docket.result c.args.order.now ≡ run_of g.H.Holder.seat (paired_all g.row.I-Item.number (entered c.args.sheet.now)) c.args.k [] 0 c.args.order.now =
+    let ops = paired_all g.I.Item.number (entered c.args.sheet.now) in
+    let same : running g.H.Holder c.open-docket.result c.args.order.now ≡ run_of g.H.Holder.seat (paired_all g.I.Item.number (entered c.args.sheet.now)) c.args.k [] 0 c.args.order.now =
     run_is g.H.Holder.seat (ops_in d) ops (bound_in d) c.args.k (steps_in d) order o.table o.bound o.steps in
     let none = not_stopped (running g.H.Holder d order).stopped (sym (ap (λ (z : RefusalCode). z.number) (r.answer o.tied).1) ∙ c.if-stopped-ne0.false) in
     let placed = ran_whole g.H.Holder.seat ops c.args.k order (sym (ap (λ (z : Run). z.stopped) same) ∙ none) in

@@ -17,7 +17,7 @@ returns-in_err-accepted g c =
     let p = err_from_is_err_and c.from-residual.result c.from-residual.ensures.1 in
     let e = c.in_err-accepted.ensures in
     rw (p.1, p.2) (record {
-      answer = not_read (length c.args.out.now) (reading g.row.I-Item (room c.args.sheet.now) c.args.bytes.now) c.in_err-accepted.field-0.0 e.answer;
+      answer = not_read (length c.args.out.now) (reading g.I.Item (room c.args.sheet.now) c.args.bytes.now) c.in_err-accepted.field-0.0 e.answer;
       entered = e.entered;
       memory = e.memory;
       room = e.room;
@@ -51,10 +51,10 @@ returns-in_err-write g c =
     let w = c.in_err-write.ensures in
     let size = length c.args.out.now in
     let items = c.as_slice.ensures.value ∙ c.in_ok-order.ensures in
-    let read = accepted_of (Ok a) (reading g.row.I-Item (room c.args.sheet.now) c.args.bytes.now) (entered c.args.sheet.now) os e.answer e.entered in
+    let read = accepted_of (Ok a) (reading g.I.Item (room c.args.sheet.now) c.args.bytes.now) (entered c.args.sheet.now) os e.answer e.entered in
     rw (p.1, p.2) (record {
       answer =
-          not_written g.row.I-Item (room c.args.sheet.now) size (contents_of a os) e.accepted_is_sound _ (w.answer ∙ ap (λ xs. writing a.kind (length os) (length xs) size) items)
+          not_written g.I.Item (room c.args.sheet.now) size (contents_of a os) e.accepted_is_sound _ (w.answer ∙ ap (λ xs. writing a.kind (length os) (length xs) size) items)
           ∙ ap (copying size) (sym read);
       entered = e.entered;
       memory = e.memory;
@@ -67,7 +67,7 @@ returns-in_err-write g c =
 
 pub returns : goal.returns
 returns g c =
-    let t = g.row.I-Item in
+    let t = g.I.Item in
     let e = c.in_ok-accepted.ensures in
     let a = c.in_ok-accepted.accepted in
     let os = entered c.read.new.sheet in

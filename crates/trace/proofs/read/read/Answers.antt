@@ -7,9 +7,9 @@ use Rattle.trace.proofs.read.read.Goals as goal
 
 pub returns : goal.returns
 returns g c =
-    let t = g.row.I-Item in
+    let t = g.I.Item in
     let met = g.met.I.Item in
-    let law : Lawful g.row.I-Item = record { coded = met.coded; small = met.small; there = met.there; back = met.back } in
+    let law : Lawful g.I.Item = record { coded = met.coded; small = met.small; there = met.there; back = met.back } in
     let bs = c.args.bytes.now in
     let bytes : Bytes c.args.bytes.now = λ i. omega (arith, c.type-inv.bytes i) in
     let e = c.read_parts.ensures in

@@ -17,7 +17,7 @@ returns-in_err-take_all g c =
     let h = c.in_ok-header.header in
     let e = c.in_err-take_all.ensures in
     let all =
-    accepting g.row.I-Item c.type_code.result (room c.args.sheet.now) (room c.clear.new.self) c.args.bytes.now c.new.result.bytes.now h _
+    accepting g.I.Item c.type_code.result (room c.args.sheet.now) (room c.clear.new.self) c.args.bytes.now c.new.result.bytes.now h _
     c.type_code.ensures c.in_ok-header.ensures.answer c.clear.ensures.room c.new.ensures c.in_ok-header.ensures.long e.run in
     let answer : shown c.from-residual-in_err-take_all.result ≡ answered (refused (entered c.take_all.new.sheet) c.in_err-take_all.field-0.0.place c.in_err-take_all.field-0.0.fault) =
     search rules in
@@ -35,7 +35,7 @@ returns g c =
     let e = c.in_ok-take_all.ensures in
     let bs = c.args.bytes.now in
     let all =
-    accepting g.row.I-Item c.type_code.result (room c.args.sheet.now) (room c.clear.new.self) bs c.new.result.bytes.now h _
+    accepting g.I.Item c.type_code.result (room c.args.sheet.now) (room c.clear.new.self) bs c.new.result.bytes.now h _
     c.type_code.ensures c.in_ok-header.ensures.answer c.clear.ensures.room c.new.ensures c.in_ok-header.ensures.long e.run in
     let order = ap (λ z. numbers_of (length z / 2) z) c.new-order.ensures ∙ order_after bs h.count c.in_ok-header.ensures.long in
     record {

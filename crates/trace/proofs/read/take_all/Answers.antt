@@ -29,7 +29,7 @@ returns-in-Err g c =
     let e = c.in-Err.ensures in
     record {
       run =
-          turned_away g.row.I-Item (room c.args.sheet.now) bs i (record_count bs) (room s) (entered s) fin c.in-Some.rec.now c.in-Err.fault
+          turned_away g.I.Item (room c.args.sheet.now) bs i (record_count bs) (room s) (entered s) fin c.in-Some.rec.now c.in-Err.fault
           c.loop-rec.invariant.0 c.loop-rec.invariant.1 h.1 (e.step i) h.0;
       memory =
           e.memory ∙ ap (filled fin) c.loop-rec.invariant.2 ∙ filled_twice (entered s) fin (memory c.args.sheet.now) e.grows;
@@ -46,7 +46,7 @@ loop-rec-preserved g c =
     let h = handed_out i (record_count bs) _ (record_at i bs) c.in-Some.ensures in
     let l = h.0 in
     let e = c.in_default-take_record.ensures in (
-      turn g.row.I-Item (room c.args.sheet.now) bs i (room s) (entered s) c.in-Some.rec.now _ c.loop-rec.invariant.0 c.loop-rec.invariant.1 h.1 (e.step i),
+      turn g.I.Item (room c.args.sheet.now) bs i (room s) (entered s) c.in-Some.rec.now _ c.loop-rec.invariant.0 c.loop-rec.invariant.1 h.1 (e.step i),
       e.room ∙ c.loop-rec.invariant.1,
       e.memory ∙ ap (filled fin) c.loop-rec.invariant.2 ∙ filled_twice (entered s) fin (memory c.args.sheet.now) e.grows,
       e.lender ∙ c.loop-rec.invariant.3,
@@ -67,7 +67,7 @@ returns g c =
     let k = c.loop-rec.invariant.4 in
     let e : record_count c.args.trace.now.bytes.now ≡ c.loop-rec.place = omega arith in
     record {
-      run = ap (run g.row.I-Item (room c.args.sheet.now) bs) e ∙ c.loop-rec.invariant.0;
+      run = ap (run g.I.Item (room c.args.sheet.now) bs) e ∙ c.loop-rec.invariant.0;
       memory = c.loop-rec.invariant.2;
       room = c.loop-rec.invariant.1;
       lender = c.loop-rec.invariant.3;

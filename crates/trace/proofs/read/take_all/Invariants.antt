@@ -7,7 +7,7 @@ use Rattle.trace.proofs.read.take_all.Given as goal
 
 abbrev pub invariant-loop-rec : goal.invariant-loop-rec
 invariant-loop-rec g l =
-    (run g.row.I-Item (room l.initial.sheet) l.trace.bytes.now l.place ≡ going (entered l.sheet))
+    (run g.I.Item (room l.initial.sheet) l.trace.bytes.now l.place ≡ going (entered l.sheet))
     × (room l.sheet ≡ room l.initial.sheet)
     × (memory l.sheet ≡ filled (entered l.sheet) (memory l.initial.sheet))
     × (l.sheet.records.ghost_name ≡ l.initial.sheet.records.ghost_name)

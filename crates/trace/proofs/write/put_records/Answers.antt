@@ -9,7 +9,7 @@ use Rattle.trace.proofs.write.put_records.Goals as goal
 
 pub loop-i-preserved : goal.loop-i-preserved
 loop-i-preserved g c =
-    let t = g.row.I-Item in
+    let t = g.I.Item in
     let i = c.loop-i.i in
     let ops = c.args.ops.now in
     let op = c.index-ops-i.result in
@@ -22,7 +22,7 @@ loop-i-preserved g c =
 
 pub returns : goal.returns
 returns g c =
-    let t = g.row.I-Item in
+    let t = g.I.Item in
     let ops = c.args.ops.now in
     let e : c.loop-i.i ≡ length ops = omega arith in
     record {

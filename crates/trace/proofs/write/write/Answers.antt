@@ -9,9 +9,9 @@ use Rattle.trace.proofs.write.write.Goals as goal
 
 pub returns : goal.returns
 returns g c =
-    let t = g.row.I-Item in
+    let t = g.I.Item in
     let met = g.met.I.Item in
-    let law : Lawful g.row.I-Item = record { coded = met.coded; small = met.small; there = met.there; back = met.back } in
+    let law : Lawful g.I.Item = record { coded = met.coded; small = met.small; there = met.there; back = met.back } in
     let ops = c.all-ops.result.now in
     let items = c.all-ops.ensures.entered in
     let kind = c.args.kind in

@@ -2,5 +2,5 @@ use Rattle.std.proofs.Common.{refl}
 use Rattle.counting.specs.Sums.{sums_free}
 use Rattle.counting.proofs.arrivals.Arrivals.new.Goals as goal
 
-pub invariant-of-result : goal.invariant-of-result
-invariant-of-result c = (refl, (refl, (sums_free, tt)))
+pub invariant_of-result : goal.invariant_of-result
+invariant_of-result c = (refl, (refl, (sums_free, tt)))

@@ -19,8 +19,8 @@ change-requires c =
           omega (arith, sum_enough r.sums r.slots i r.slotted r.right p s w, ap (λ x. from (i + 1) x p) c.counted-less.ensures, ap (λ x. from (i + 1) x (p - block p)) c.counted-less.ensures);
     }
 
-pub invariant-of-self : goal.invariant-of-self
-invariant-of-self c =
+pub invariant_of-self : goal.invariant_of-self
+invariant_of-self c =
     let r = c.args.self.now in
     let i = c.args.i in
     let new = c.change.new.sums in

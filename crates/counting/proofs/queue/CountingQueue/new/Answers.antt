@@ -3,8 +3,8 @@ use Rattle.counting.specs.Codes.{codes_none}
 use Rattle.counting.proofs.Kept.{free_clear, placed_clear, back_clear}
 use Rattle.counting.proofs.queue.CountingQueue.new.Goals as goal
 
-pub invariant-of-result : goal.invariant-of-result
-invariant-of-result c =
+pub invariant_of-result : goal.invariant_of-result
+invariant_of-result c =
     let s = c.new.result.slots in
     let e = c.new.ensures in
     (refl, (omega arith, ((λ k h. free_clear s e k), (placed_clear s (replicate 1024 0) e, (back_clear s, tt)))))

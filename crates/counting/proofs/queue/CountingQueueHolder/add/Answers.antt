@@ -16,8 +16,8 @@ returns-then-self-ge-ADD-BOUND c =
     let a = not_held c.args.self.now c.args.code (omega arith) in
     record { answer = search rules; list = refl; count = refl }
 
-pub invariant-of-self : goal.invariant-of-self
-invariant-of-self c =
+pub invariant_of-self : goal.invariant_of-self
+invariant_of-self c =
     let q = c.args.self.now in
     let s = q.arrivals.slots in
     let n = q.added in

@@ -13,8 +13,8 @@ returns-then-position-eq0 c =
     let a = not_held q c.args.code (omega arith) in
     record { answer = search rules; list = sym (without_absent c.args.code (codes s) (codes_absent s q.positions c.args.code q.placed (omega arith))); count = refl }
 
-pub invariant-of-self : goal.invariant-of-self
-invariant-of-self c =
+pub invariant_of-self : goal.invariant_of-self
+invariant_of-self c =
     let q = c.args.self.now in
     let s = q.arrivals.slots in
     let k = c.args.code in

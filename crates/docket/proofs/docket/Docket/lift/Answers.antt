@@ -9,8 +9,8 @@ returns-then-self-eq0 g c =
     let n = lift_none g.H.Holder.seat c.args.self.now.ledger c.if-self-eq0.true in
     record { answer = n.0; tied = λ i. i; steps = n.1; table = refl; bound = refl; refused = λ _. refl }
 
-pub invariant-of-self : goal.invariant-of-self
-invariant-of-self g c =
+pub invariant_of-self : goal.invariant_of-self
+invariant_of-self g c =
     let u = c.unmark-x.new.ledger in (
       (c.move_latenesses.auto.entries ∙ u.full.0, u.full.1, u.full.2),
       (u.few, (u.known, (u.once, ((λ x h. flag_kept false u.entries c.move_latenesses.new.entries _ x c.move_latenesses.ensures ∙ u.flagged x h), tt)))),

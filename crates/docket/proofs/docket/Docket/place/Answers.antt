@@ -10,8 +10,8 @@ use Rattle.docket.proofs.docket.Docket.place.Goals as goal
 pub bounds-self-operation : goal.bounds-self-operation
 bounds-self-operation g c = let o = judged_ok _ _ _ _ _ _ _ c.in-Ok.rank c.in-Ok.ensures in omega (arith, o.0)
 
-pub invariant-of-self : goal.invariant-of-self
-invariant-of-self g c =
+pub invariant_of-self : goal.invariant_of-self
+invariant_of-self g c =
     let l = c.args.self.now.ledger in (
       (c.move_latenesses.auto.entries ∙ l.full.0, l.full.1, l.full.2),
       (l.few, (l.known, (l.once, ((λ x h. flag_kept true l.entries c.move_latenesses.new.entries _ x c.move_latenesses.ensures ∙ l.flagged x h), tt)))),

@@ -17,8 +17,8 @@ bounds-ledger-n c = omega (arith, open_place c.args.ledger.now c.args.x c.requir
 pub bounds-ledger-n-2 : goal.bounds-ledger-n-2
 bounds-ledger-n-2 c = omega (arith, open_place c.args.ledger.now c.args.x c.requires.within c.requires.new)
 
-pub invariant-of-ledger : goal.invariant-of-ledger
-invariant-of-ledger c =
+pub invariant_of-ledger : goal.invariant_of-ledger
+invariant_of-ledger c =
     let l = c.args.ledger.now in
     let x = c.args.x in
     let z = fresh l x c.requires.within c.requires.new in

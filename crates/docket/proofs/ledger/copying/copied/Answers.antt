@@ -22,10 +22,10 @@ loop-number-preserved g c =
     let es = c.loop-number.entries in
     let s = c.args.sheet.now in
     let i = c.loop-number.number in
-    let qs = paired_all g.row.I-Item.number (entered s) in
+    let qs = paired_all g.I.Item.number (entered s) in
     let v = c.loop-number.invariant in
     let few = at_most s in
-    let size = length-map (entered s) (paired_of g.row.I-Item.number (entered s)) in
+    let size = length-map (entered s) (paired_of g.I.Item.number (entered s)) in
     let within : i < length qs = omega (arith, c.count-count.ensures) in
     let room : i < length es = omega (arith, v.0) in
     elim c.match-paired.branch [
@@ -44,8 +44,8 @@ returns g c =
     let s = c.args.sheet.now in
     let i = c.loop-number.number in
     let n = c.count-count.result in
-    let qs = paired_all g.row.I-Item.number (entered s) in
-    let size = length-map (entered s) (paired_of g.row.I-Item.number (entered s)) in
+    let qs = paired_all g.I.Item.number (entered s) in
+    let size = length-map (entered s) (paired_of g.I.Item.number (entered s)) in
     let e : n ≡ i = omega arith in
     record {
       table = ap (λ (m : ℕ). take m (map paired_in es)) e ∙ c.loop-number.invariant.1 ∙ take_all i qs (omega (arith, c.count-count.ensures));

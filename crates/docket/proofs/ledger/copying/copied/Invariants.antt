@@ -8,6 +8,6 @@ use Rattle.docket.proofs.ledger.copying.copied.Given as goal
 abbrev pub invariant-loop-number : goal.invariant-loop-number
 invariant-loop-number g l =
     (length l.entries ≡ 1024)
-    × (take l.number (map paired_in l.entries) ≡ take l.number (paired_all g.row.I-Item.number (entered l.sheet)))
+    × (take l.number (map paired_in l.entries) ≡ take l.number (paired_all g.I.Item.number (entered l.sheet)))
     × ((x : ℕ) → (entry_of l.entries x).placed ≡ false)
     × ((x : ℕ) → (entry_of l.entries x).late ≡ 0)

@@ -4,8 +4,8 @@ use Rattle.giving.proofs.Counts.{once_push, below_push}
 use Rattle.holder.specs.Rows.{row_list}
 use Rattle.holder.proofs.row.Row.push.Goals as goal
 
-pub invariant-of-self : goal.invariant-of-self
-invariant-of-self c =
+pub invariant_of-self : goal.invariant_of-self
+invariant_of-self c =
     let r = c.args.self.now in
     let room : r.len < length r.codes = omega arith in (
       simp length-set r.long,

@@ -7,8 +7,8 @@ use Rattle.holder.specs.Rows.{row_list}
 use Rattle.holder.proofs.Rows.{row_removed}
 use Rattle.holder.proofs.row.Row.remove.Goals as goal
 
-pub invariant-of-self : goal.invariant-of-self
-invariant-of-self c =
+pub invariant_of-self : goal.invariant_of-self
+invariant_of-self c =
     let r = c.args.self.now in
     let n = length-take-le r.len r.codes (omega arith) in
     let M = remove (row_list r) c.args.i in

@@ -8,5 +8,5 @@ returns g c =
     let os = entered c.args.self.now in
     record {
       answer = c.find_pair.ensures;
-      lowest_add_of_the_item = pairs g.row.I-Item.number os (slice_get os c.args.number) c.find_pair.result c.find_pair.ensures;
+      lowest_add_of_the_item = pairs g.I.Item.number os (slice_get os c.args.number) c.find_pair.result c.find_pair.ensures;
     }
