@@ -3,4 +3,9 @@ use Rattle.counting.specs.Sums.{sums_free}
 use Rattle.counting.proofs.arrivals.Arrivals.new.Goals as goal
 
 pub invariant_of-result : goal.invariant_of-result
-invariant_of-result c = (refl, (refl, (sums_free, tt)))
+invariant_of-result c =
+    record {
+      slotted = refl;
+      summed = refl;
+      right = sums_free;
+    }

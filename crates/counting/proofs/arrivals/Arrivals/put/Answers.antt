@@ -26,4 +26,8 @@ invariant_of-self c =
     let new = c.change.new.sums in
     let changed : Changed (i + 1) (worth (get_or r.slots i 0)) (worth c.args.slot) r.sums new =
     subst (λ x. Changed (i + 1) (worth (get_or r.slots i 0)) x r.sums new) c.counted-more.ensures (subst (λ x. Changed (i + 1) x c.counted-more.result r.sums new) c.counted-less.ensures c.change.ensures) in
-    (simp length-set r.slotted, (search rules, (sums_set r.sums new r.slots i c.args.slot r.slotted r.right changed, tt)))
+    record {
+      slotted = simp length-set r.slotted;
+      summed = search rules;
+      right = sums_set r.sums new r.slots i c.args.slot r.slotted r.right changed;
+    }

@@ -7,7 +7,13 @@ pub invariant_of-result : goal.invariant_of-result
 invariant_of-result c =
     let s = c.new.result.slots in
     let e = c.new.ensures in
-    (refl, (omega arith, ((λ k h. free_clear s e k), (placed_clear s (replicate 1024 0) e, (back_clear s, tt)))))
+    record {
+      long = refl;
+      few = omega arith;
+      free = (λ k h. free_clear s e k);
+      placed = placed_clear s (replicate 1024 0) e;
+      back = back_clear s;
+    }
 
 pub returns : goal.returns
 returns c = record { list = codes_none c.new.result.slots (free_clear _ c.new.ensures); count = refl }

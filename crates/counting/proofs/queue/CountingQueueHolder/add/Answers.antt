@@ -25,7 +25,13 @@ invariant_of-self c =
     let e : c.put.new.self.slots ≡ set s n (k + 1) = c.put.ensures in
     let z : get_or q.positions k 0 ≡ 0 = omega arith in
     let kept = kept_add s q.positions n k (omega arith) (omega arith) (omega arith) q.free q.placed q.back z c.put.new.self.slots e in
-    (simp length-set q.long, (omega arith, (kept.0, (kept.1, (kept.2, tt)))))
+    record {
+      long = simp length-set q.long;
+      few = omega arith;
+      free = kept.0;
+      placed = kept.1;
+      back = kept.2;
+    }
 
 pub returns : goal.returns
 returns c =

@@ -25,7 +25,13 @@ invariant_of-self c =
     let l = within s i (omega arith) in
     let w = within q.positions k (omega arith) in
     let kept = kept_take s q.positions q.added k i l w q.free q.placed q.back p h.slot c.put.new.self.slots e in
-    (simp length-set q.long, (q.few, (kept.0, (kept.1, (kept.2, tt)))))
+    record {
+      long = simp length-set q.long;
+      few = q.few;
+      free = kept.0;
+      placed = kept.1;
+      back = kept.2;
+    }
 
 pub returns : goal.returns
 returns c =

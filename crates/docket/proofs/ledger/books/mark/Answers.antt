@@ -23,19 +23,14 @@ invariant_of-ledger c =
     let x = c.args.x in
     let z = fresh l x c.requires.within c.requires.new in
     let o = open_place l x c.requires.within c.requires.new in
-    let h : l.placed < length l.steps = omega arith in (
-      (simp length-set l.full.0, simp length-set l.full.1, simp length-set l.full.2),
-      (
-        (omega arith, l.few.1),
-        (
-          known_marked l.steps l.placed x h l.count l.known c.requires.within,
-          (
-            once_marked l.steps l.placed x h l.once z,
-            (flagged_marked l.steps l.placed x h l.entries l.count (omega arith) l.flagged, tt),
-          ),
-        ),
-      ),
-    )
+    let h : l.placed < length l.steps = omega arith in
+    record {
+      full = (simp length-set l.full.0, simp length-set l.full.1, simp length-set l.full.2);
+      few = (omega arith, l.few.1);
+      known = known_marked l.steps l.placed x h l.count l.known c.requires.within;
+      once = once_marked l.steps l.placed x h l.once z;
+      flagged = flagged_marked l.steps l.placed x h l.entries l.count (omega arith) l.flagged;
+    }
 
 pub returns : goal.returns
 returns c = record { entries = refl; steps = refl; ranks = refl; placed = refl; count = refl; bound = refl }

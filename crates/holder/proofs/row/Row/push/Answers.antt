@@ -7,13 +7,13 @@ use Rattle.holder.proofs.row.Row.push.Goals as goal
 pub invariant_of-self : goal.invariant_of-self
 invariant_of-self c =
     let r = c.args.self.now in
-    let room : r.len < length r.codes = omega arith in (
-      simp length-set r.long,
-      (
-        rw (take_more_set _ _ _ room) (once_push c.args.code (row_list r) c.requires.new r.once),
-        (rw (take_more_set _ _ _ room) (below_push 1024 c.args.code (row_list r) c.requires.small r.below), ((omega arith, omega arith), tt)),
-      ),
-    )
+    let room : r.len < length r.codes = omega arith in
+    record {
+      long = simp length-set r.long;
+      once = rw (take_more_set _ _ _ room) (once_push c.args.code (row_list r) c.requires.new r.once);
+      below = rw (take_more_set _ _ _ room) (below_push 1024 c.args.code (row_list r) c.requires.small r.below);
+      few = (omega arith, omega arith);
+    }
 
 pub returns : goal.returns
 returns c =

@@ -12,16 +12,13 @@ invariant_of-self c =
     let r = c.args.self.now in
     let n = length-take-le r.len r.codes (omega arith) in
     let M = remove (row_list r) c.args.i in
-    let left = row_removed r c.copy_within.new.self c.args.i c.requires c.copy_within.ensures.after in (
-      c.copy_within.ensures.len ∙ r.long,
-      (
-        subst Once (sym left) (once_fewer (row_list r) M (λ a. times_removed a c.args.i (row_list r)) r.once),
-        (
-          subst (Below 1024) (sym left) (below_fewer 1024 (row_list r) M (λ a. times_removed a c.args.i (row_list r)) r.below),
-          ((omega arith, omega arith), tt),
-        ),
-      ),
-    )
+    let left = row_removed r c.copy_within.new.self c.args.i c.requires c.copy_within.ensures.after in
+    record {
+      long = c.copy_within.ensures.len ∙ r.long;
+      once = subst Once (sym left) (once_fewer (row_list r) M (λ a. times_removed a c.args.i (row_list r)) r.once);
+      below = subst (Below 1024) (sym left) (below_fewer 1024 (row_list r) M (λ a. times_removed a c.args.i (row_list r)) r.below);
+      few = (omega arith, omega arith);
+    }
 
 pub returns : goal.returns
 returns c = record { list = row_removed c.args.self.now c.copy_within.new.self c.args.i c.requires c.copy_within.ensures.after; count = refl }

@@ -10,7 +10,11 @@ pub invariant_of-self : goal.invariant_of-self
 invariant_of-self g c =
     let s = c.args.self.now in
     let h = grown g.I.Item.number s.records.now s.count _ c.args.op s.within s.bounded s.consistent c.in_ok-number.ensures in
-    (h.within, (h.bounded, (h.consistent, tt)))
+    record {
+      within = h.within;
+      bounded = h.bounded;
+      consistent = h.consistent;
+    }
 
 pub returns : goal.returns
 returns g c =
