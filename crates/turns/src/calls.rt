@@ -62,8 +62,8 @@ fn same_answer(one: HolderAnswer, other: HolderAnswer) -> bool
 
 // Gives a holder one call.
 pub fn answer_to<H: Holder>(holder: &mut H, call: HolderCall) -> HolderAnswer
-    ensures answer { result ≡ answer_for (meaning (giving holder.old) (adds holder.old)) call }
-    ensures left { meaning (giving holder.new) (adds holder.new) ≡ after seat (meaning (giving holder.old) (adds holder.old)) call }
+    ensures answer { result ≡ answer_for (meaning (H.giving holder.old) (H.adds holder.old)) call }
+    ensures left { meaning (H.giving holder.new) (H.adds holder.new) ≡ after H.seat (meaning (H.giving holder.old) (H.adds holder.old)) call }
 {
     match call {
         HolderCall::Clear => {
@@ -80,8 +80,8 @@ pub fn answer_to<H: Holder>(holder: &mut H, call: HolderCall) -> HolderAnswer
 
 // Clears a holder, gives it the calls one after another, and writes each answer down beside its call.
 pub fn answer_all<H: Holder>(holder: &mut H, turns: &mut [HolderTurn])
-    ensures answers { turns.new ≡ answered seat (meaning [] 0) turns.old }
-    ensures left { meaning (giving holder.new) (adds holder.new) ≡ after_all seat (meaning [] 0) turns.old }
+    ensures answers { turns.new ≡ answered H.seat (meaning [] 0) turns.old }
+    ensures left { meaning (H.giving holder.new) (H.adds holder.new) ≡ after_all H.seat (meaning [] 0) turns.old }
 {
     holder.clear();
     for i in 0..turns.len() {
@@ -91,9 +91,9 @@ pub fn answer_all<H: Holder>(holder: &mut H, turns: &mut [HolderTurn])
 
 // Clears a holder, gives it the calls one after another, and says whether each answer is the one written down.
 pub fn answers_agree<H: Holder>(holder: &mut H, turns: &[HolderTurn]) -> bool
-    ensures agreed { result ≡ true → Answered seat (meaning [] 0) turns.now }
-    ensures told { Answered seat (meaning [] 0) turns.now → result ≡ true }
-    ensures left { meaning (giving holder.new) (adds holder.new) ≡ after_all seat (meaning [] 0) turns.now }
+    ensures agreed { result ≡ true → Answered H.seat (meaning [] 0) turns.now }
+    ensures told { Answered H.seat (meaning [] 0) turns.now → result ≡ true }
+    ensures left { meaning (H.giving holder.new) (H.adds holder.new) ≡ after_all H.seat (meaning [] 0) turns.now }
 {
     holder.clear();
     let mut agree = true;

@@ -13,5 +13,5 @@ returns g c =
     c.in_ok-method.ensures in
     let met = g.met.I.Item in
     let law : Lawful g.I.Item = record { coded = met.coded; small = met.small; there = met.there; back = met.back } in
-    let bytes : Bytes c.args.bytes.now = λ i. omega (arith, c.type-inv.bytes i) in
+    let bytes : Bytes c.args.bytes.now = λ i. omega (arith, c.type_inv.bytes i) in
     record { answer = answer; written_the_same = λ l. (record_back g.I.Item law c.args.bytes.now _ bytes l (sym answer)).0 }

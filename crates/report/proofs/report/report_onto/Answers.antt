@@ -33,7 +33,7 @@ returns-in-Err g c =
     let met = g.met.I.Item in
     let law : Lawful g.I.Item = record { coded = met.coded; small = met.small; there = met.there; back = met.back } in
     let bs = c.args.bytes.now in
-    let bytes : Bytes c.args.bytes.now = λ i. omega (arith, c.type-inv.bytes i) in
+    let bytes : Bytes c.args.bytes.now = λ i. omega (arith, c.type_inv.bytes i) in
     let same = ap (λ m. reading g.I.Item (min (length m) 1024) c.args.bytes.now) c.new-sheet.ensures.memory in
     let o = reading g.I.Item (room c.new-sheet.result) c.args.bytes.now in
     let size : length c.args.out.now ≡ length c.args.bytes.now = c.requires in

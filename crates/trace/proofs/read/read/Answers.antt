@@ -11,7 +11,7 @@ returns g c =
     let met = g.met.I.Item in
     let law : Lawful g.I.Item = record { coded = met.coded; small = met.small; there = met.there; back = met.back } in
     let bs = c.args.bytes.now in
-    let bytes : Bytes c.args.bytes.now = λ i. omega (arith, c.type-inv.bytes i) in
+    let bytes : Bytes c.args.bytes.now = λ i. omega (arith, c.type_inv.bytes i) in
     let e = c.read_parts.ensures in
     let old = entered c.args.sheet.now in
     let os = entered c.read_parts.new.sheet in
