@@ -56,10 +56,10 @@ returns-in-Certify g c =
     let a = c.in-Certify in
     let e = c.certify.ensures in
     let m = c.certify.new in
-    let r = with_items_is a.ranks m.ranks (c.certify.auto.ranks ∙ c.deref-mut.ensures.len) in
-    let n = with_items_is a.instants m.instants (c.certify.auto.instants ∙ c.deref-mut-in-Certify.ensures.len) in
-    let t = with_items_is a.latenesses m.latenesses (c.certify.auto.latenesses ∙ c.deref-mut-in-Certify-2.ensures.len) in
-    let same = three_same c.deref-mut.result.now (vec_items a.ranks) c.deref-mut-in-Certify.result.now (vec_items a.instants) c.deref-mut-in-Certify-2.result.now (vec_items a.latenesses) c.deref-mut.ensures.value c.deref-mut-in-Certify.ensures.value c.deref-mut-in-Certify-2.ensures.value in
+    let r = with_items_is a.ranks m.ranks (c.certify.auto.ranks ∙ c.deref_mut.ensures.len) in
+    let n = with_items_is a.instants m.instants (c.certify.auto.instants ∙ c.deref_mut-in-Certify.ensures.len) in
+    let t = with_items_is a.latenesses m.latenesses (c.certify.auto.latenesses ∙ c.deref_mut-in-Certify-2.ensures.len) in
+    let same = three_same c.deref_mut.result.now (vec_items a.ranks) c.deref_mut-in-Certify.result.now (vec_items a.instants) c.deref_mut-in-Certify-2.result.now (vec_items a.latenesses) c.deref_mut.ensures.value c.deref_mut-in-Certify.ensures.value c.deref_mut-in-Certify-2.ensures.value in
     record {
       answer = λ i. certify_replied seat l c.args.slot.now a.ranks a.instants a.latenesses a.answer c.certify.result _ _ _ a.is same (e.answer i) (e.written i) (three_same _ _ _ _ _ _ r n t);
       tied = λ i. i;

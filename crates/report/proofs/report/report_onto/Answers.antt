@@ -14,7 +14,7 @@ use Rattle.report.proofs.report.report_onto.Goals as goal
 pub returns-then-ne : goal.returns-then-ne
 returns-then-ne g c =
     absurd (never_differs c.copy.new.out c.args.bytes.now c.args.out.now c.ne.result c.ne.ensures.0 c.ne.ensures.1 c.ne.ensures.2
-    c.in-Ok.ensures.written-back-is-its-own-bytes c.requires c.if-ne.true)
+    c.in-Ok.ensures.written_back_is_its_own_bytes c.requires c.if-ne.true)
 
 pub returns-in_ok-examined : goal.returns-in_ok-examined
 returns-in_ok-examined g c =
@@ -43,4 +43,4 @@ returns-in-Err g c =
     MatchResult-weaker c.faulted.result said (λ p e. e ∙ ap (saying t) same) (λ f e. e)
 
 pub returns-in_err-examined : goal.returns-in_err-examined
-returns-in_err-examined g c = let p = err_from_is_err_and c.from-residual.result c.from-residual.ensures.1 in rw p.1 p.2
+returns-in_err-examined g c = let p = err_from_is_err_and c.from_residual.result c.from_residual.ensures.1 in rw p.1 p.2

@@ -14,7 +14,7 @@ use Rattle.trace.proofs.copy.copy.Goals as goal
 
 pub returns-in_err-accepted : goal.returns-in_err-accepted
 returns-in_err-accepted g c =
-    let p = err_from_is_err_and c.from-residual.result c.from-residual.ensures.1 in
+    let p = err_from_is_err_and c.from_residual.result c.from_residual.ensures.1 in
     let e = c.in_err-accepted.ensures in
     rw (p.1, p.2) (record {
       answer = not_read (length c.args.out.now) (reading g.I.Item (room c.args.sheet.now) c.args.bytes.now) c.in_err-accepted.field-0.0 e.answer;
@@ -29,7 +29,7 @@ returns-in_err-accepted g c =
 
 pub returns-in_err-order : goal.returns-in_err-order
 returns-in_err-order g c =
-    let p = err_from_is_err_and c.from-residual-in_err-order.result c.from-residual-in_err-order.ensures.1 in
+    let p = err_from_is_err_and c.from_residual-in_err-order.result c.from_residual-in_err-order.ensures.1 in
     let e = c.in_ok-accepted.ensures in
     rw (p.1, p.2) (record {
       answer = tt;
@@ -44,7 +44,7 @@ returns-in_err-order g c =
 
 pub returns-in_err-write : goal.returns-in_err-write
 returns-in_err-write g c =
-    let p = err_from_is_err_and c.from-residual-in_err-write.result c.from-residual-in_err-write.ensures.1 in
+    let p = err_from_is_err_and c.from_residual-in_err-write.result c.from_residual-in_err-write.ensures.1 in
     let e = c.in_ok-accepted.ensures in
     let a = c.in_ok-accepted.accepted in
     let os = entered c.read.new.sheet in

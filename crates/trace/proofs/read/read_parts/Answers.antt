@@ -19,7 +19,7 @@ returns-in_err-take_all g c =
     let all =
     accepting g.I.Item c.type_code.result (room c.args.sheet.now) (room c.clear.new.self) c.args.bytes.now c.new.result.bytes.now h _
     c.type_code.ensures c.in_ok-header.ensures.answer c.clear.ensures.room c.new.ensures c.in_ok-header.ensures.long e.run in
-    let answer : shown c.from-residual-in_err-take_all.result ≡ answered (refused (entered c.take_all.new.sheet) c.in_err-take_all.field-0.0.place c.in_err-take_all.field-0.0.fault) =
+    let answer : shown c.from_residual-in_err-take_all.result ≡ answered (refused (entered c.take_all.new.sheet) c.in_err-take_all.field-0.0.place c.in_err-take_all.field-0.0.fault) =
     search rules in
     record {
       answer = answer ∙ sym (ap answered all);

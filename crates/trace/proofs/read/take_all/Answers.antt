@@ -7,14 +7,14 @@ use Rattle.trace.specs.Reading.Run.{going}
 use Rattle.trace.proofs.Runs.{turn, turned_away, handed_out, none_left}
 use Rattle.trace.proofs.read.take_all.Goals as goal
 
-pub overflow-cast-place : goal.overflow-cast-place
-overflow-cast-place g c = omega (arith, c.loop-rec.invariant.4, c.requires.few)
+pub overflow_cast-place : goal.overflow_cast-place
+overflow_cast-place g c = omega (arith, c.loop-rec.invariant.4, c.requires.few)
 
 pub loop-rec-init : goal.loop-rec-init
 loop-rec-init g c = (ap (λ os. going os) (sym c.requires.empty), refl, filled_same c.args.sheet.now, refl, omega arith)
 
-pub overflow-add-place : goal.overflow-add-place
-overflow-add-place g c =
+pub overflow_add-place : goal.overflow_add-place
+overflow_add-place g c =
     let bs = c.args.trace.now.bytes.now in
     let h = handed_out c.loop-rec.place (record_count bs) _ (record_at c.loop-rec.place bs) c.in-Some.ensures in
     omega (arith, h.0, c.requires.few)

@@ -3,8 +3,8 @@ use Rattle.counting.specs.Blocks.{upto}
 use Rattle.counting.specs.Sums.{upto_le, upto_none}
 use Rattle.counting.proofs.arrivals.Arrivals.used_before.Goals as goal
 
-pub overflow-add-sum : goal.overflow-add-sum
-overflow-add-sum c =
+pub overflow_add-sum : goal.overflow_add-sum
+overflow_add-sum c =
     let r = c.args.self.now in
     omega (arith, upto_le r.slots c.args.n, r.right c.loop-at.at (omega arith) (omega arith))
 

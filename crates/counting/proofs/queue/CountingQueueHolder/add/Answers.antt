@@ -11,8 +11,8 @@ returns-then-position-gt0 c =
     let h = held_at c.args.self.now c.args.code c.position.result c.position.ensures (omega arith) in
     record { answer = search rules; list = refl; count = refl }
 
-pub returns-then-self-ge-ADD-BOUND : goal.returns-then-self-ge-ADD-BOUND
-returns-then-self-ge-ADD-BOUND c =
+pub returns-then-self-ge-ADD_BOUND : goal.returns-then-self-ge-ADD_BOUND
+returns-then-self-ge-ADD_BOUND c =
     let a = not_held c.args.self.now c.args.code (omega arith) in
     record { answer = search rules; list = refl; count = refl }
 

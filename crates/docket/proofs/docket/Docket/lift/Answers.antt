@@ -12,13 +12,7 @@ returns-then-self-eq0 g c =
 pub invariant_of-self : goal.invariant_of-self
 invariant_of-self g c =
     let u = c.unmark-x.new.ledger in
-    record {
-      full = (c.move_latenesses.auto.entries ∙ u.full.0, u.full.1, u.full.2);
-      few = u.few;
-      known = u.known;
-      once = u.once;
-      flagged = (λ x h. flag_kept false u.entries c.move_latenesses.new.entries _ x c.move_latenesses.ensures ∙ u.flagged x h);
-    }
+    ((c.move_latenesses.auto.entries ∙ u.full.0, u.full.1, u.full.2), (u.few, (u.known, (u.once, ((λ x h. flag_kept false u.entries c.move_latenesses.new.entries _ x c.move_latenesses.ensures ∙ u.flagged x h), tt)))))
 
 pub returns : goal.returns
 returns g c =

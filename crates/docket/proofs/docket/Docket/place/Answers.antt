@@ -13,13 +13,7 @@ bounds-self-operation g c = let o = judged_ok _ _ _ _ _ _ _ c.in-Ok.rank c.in-Ok
 pub invariant_of-self : goal.invariant_of-self
 invariant_of-self g c =
     let l = c.args.self.now.ledger in
-    record {
-      full = (c.move_latenesses.auto.entries ∙ l.full.0, l.full.1, l.full.2);
-      few = l.few;
-      known = l.known;
-      once = l.once;
-      flagged = (λ x h. flag_kept true l.entries c.move_latenesses.new.entries _ x c.move_latenesses.ensures ∙ l.flagged x h);
-    }
+    ((c.move_latenesses.auto.entries ∙ l.full.0, l.full.1, l.full.2), (l.few, (l.known, (l.once, ((λ x h. flag_kept true l.entries c.move_latenesses.new.entries _ x c.move_latenesses.ensures ∙ l.flagged x h), tt)))))
 
 pub mark-requires : goal.mark-requires
 mark-requires g c =

@@ -30,6 +30,6 @@ loop-at-preserved g c =
           let a = at_ok L c.loop-at.at w.in-Ok.code w.in-Ok.ensures in
           let e = entry_of es w.in-Ok.code in
           changed_step (moved_by c.args.up) c.args.entries.now es c.match-at.entries L c.loop-at.at w.in-Ok.code a.0 a.1 c.loop-at.invariant
-          (w.entries-is ∙ ap (λ (v : ℕ). set es w.in-Ok.code (record { paired = e.paired; late = v; placed = e.placed })) w.moved_late.ensures)
+          (w.entries-is ∙ ap (λ (v : ℕ). set es w.in-Ok.code (record { paired = e.paired; late = v; placed = e.placed })) w.moved-late.ensures)
       | goal.in_default w ↦ w.entries-is ∙ c.loop-at.invariant ∙ sym (changed_past (moved_by c.args.up) c.args.entries.now L c.loop-at.at (at_err L c.loop-at.at w.in_default.field-0 w.in_default.ensures))
     ]

@@ -8,12 +8,12 @@ use Rattle.docket.proofs.Pairings.{at_most, pair_within, paired_none, paired_som
 use Rattle.docket.proofs.ledger.copying.paired.Goals as goal
 
 pub returns-in_err-operation : goal.returns-in_err-operation
-returns-in_err-operation g c = c.from-residual.ensures ∙ paired_none g.I.Item.number (entered c.args.sheet.now) c.args.number c.in_err-operation.ensures
+returns-in_err-operation g c = c.from_residual.ensures ∙ paired_none g.I.Item.number (entered c.args.sheet.now) c.args.number c.in_err-operation.ensures
 
-pub overflow-cast-deed : goal.overflow-cast-deed
-overflow-cast-deed g c =
+pub overflow_cast-deed : goal.overflow_cast-deed
+overflow_cast-deed g c =
     let s = c.args.sheet.now in
-    let w = pair_within g.I.Item.number (entered s) (slice_get (entered s) c.args.number) c.in-Some.add c.in-Some.ensures.lowest-add-of-the-item in
+    let w = pair_within g.I.Item.number (entered s) (slice_get (entered s) c.args.number) c.in-Some.add c.in-Some.ensures.lowest_add_of_the_item in
     omega (arith, w, at_most s)
 
 pub returns-in-Add : goal.returns-in-Add

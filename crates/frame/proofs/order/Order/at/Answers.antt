@@ -4,8 +4,8 @@ use Rattle.frame.proofs.OrderNumbers.{length_numbers, nth_number}
 use Rattle.frame.specs.Orders.{order_of}
 use Rattle.frame.proofs.order.Order.at.Goals as goal
 
-pub overflow-mul-i : goal.overflow-mul-i
-overflow-mul-i c =
+pub overflow_mul-i : goal.overflow_mul-i
+overflow_mul-i c =
     let bs = c.args.self.now.bytes.now in
     let l = length_numbers (length c.args.self.now.bytes.now / 2) bs in
     omega arith

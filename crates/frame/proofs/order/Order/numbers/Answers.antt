@@ -4,8 +4,8 @@ use Rattle.frame.specs.Orders.{order_of}
 use Rattle.frame.proofs.OrderNumbers.{length_numbers, number_at_place}
 use Rattle.frame.proofs.order.Order.numbers.Goals as goal
 
-pub overflow-mul-i : goal.overflow-mul-i
-overflow-mul-i c =
+pub overflow_mul-i : goal.overflow_mul-i
+overflow_mul-i c =
     let l = length_numbers (length c.args.self.now.bytes.now / 2) c.args.self.now.bytes.now in
     omega arith
 
