@@ -2,10 +2,10 @@
 use crate::ledger::Ledger;
 use holder::holder::Holder;
 
-mod calls;
 mod certifying;
 mod opening;
 pub mod parts;
+mod steps;
 
 // The holder is told every placed step.
 #[derive(Drop)]

@@ -1,8 +1,10 @@
 -- What is said of the outcome of reading a trace and writing it back.
 use Rattle.std.proofs.Common.{◌≡◌, ℕ, ◌+◌, ◌*◌, Bool, true, false, cond, not, ltb, List, [], ◌++◌, length, drop, Some, None, Ok, Err, Decides, Result, sym, refl, ap, ◌∙◌, append-nil, arith, MatchResult}
-use Rattle.std.proofs.lemmas.Slice.Eq.{slice_eq-Decides}
 use Rattle.std.proofs.lemmas.List.{drop_all}
-use Rattle.std.specs.Cmp.Lexicographic.{Matches}
+use Rattle.std.proofs.lemmas.Bool.Decides.{Decides-eqb}
+use Rattle.std.proofs.lemmas.Slice.Eq.{slice_eq-Decides}
+use Rattle.std.proofs.Math.Dec.{eqb}
+use lib.Pointwise.{pointwise}
 use Rattle.std.specs.Option.{option_map}
 use Rattle.refusal.proofs.Checks.{passed}
 use Rattle.item.specs.declared.item.Item.{Ghosts}
@@ -24,14 +26,13 @@ use Rattle.report.specs.declared.verdict.Report.{Report}
 use Rattle.report.specs.declared.report.ReportFault.{ReportFault}
 use Rattle.report.specs.declared.report.ReportFault.TheVariants as fault
 use Rattle.report.specs.Reports.{Verdict, verdict_in, refusing, seat_of, verdict_of_order, saying}
-use Rattle.std.proofs.lemmas.Bool.Decides.{Decides-eqb}
 
 -- written back into memory as long as the trace, it is never anything else
-pub never_differs : (out bs mem : List ℕ) (r x : Bool) → Matches (λ (a b : ℕ) (t : Bool). Decides t (a ≡ b)) out bs x → r ≡ not x →
+pub never_differs : (out bs mem : List ℕ) (r : Bool) → r ≡ not (pointwise eqb out bs) →
     out ≡ bs ++ drop (length bs) mem → length mem ≡ length bs → r ≡ true → ⊥
-never_differs out bs mem r x m n o l t =
+never_differs out bs mem r n o l t =
     let e : out ≡ bs = o ∙ ap (λ z. bs ++ z) (drop_all (length bs) mem (omega arith)) ∙ append-nil bs in
-    let y = (slice_eq-Decides Decides-eqb out bs x m).1 e in
+    let y = (slice_eq-Decides Decides-eqb out bs (pointwise eqb out bs) refl).1 e in
     let z : ◌≡◌ {A = ℕ} 0 1 = let p = ap not y in cc in
     omega arith
 

@@ -13,11 +13,11 @@ use Rattle.report.proofs.report.report_onto.Goals as goal
 
 pub returns-then-ne : goal.returns-then-ne
 returns-then-ne g c =
-    absurd (never_differs c.copy.new.out c.args.bytes.now c.args.out.now c.ne.result c.ne.ensures.0 c.ne.ensures.1 c.ne.ensures.2
+    absurd (never_differs c.copy.new.out c.args.bytes.now c.args.out.now c.ne.result c.ne.ensures
     c.in-Ok.ensures.written_back_is_its_own_bytes c.requires c.if-ne.true)
 
-pub returns-in_ok-examined : goal.returns-in_ok-examined
-returns-in_ok-examined g c =
+pub returns-in_ok-examined-in-Ok : goal.returns-in_ok-examined-in-Ok
+returns-in_ok-examined-in-Ok g c =
     let t = g.I.Item in
     let bs = c.args.bytes.now in
     let e = c.in-Ok.ensures in
@@ -25,7 +25,7 @@ returns-in_ok-examined g c =
     let s =
     examined_said t (reading g.I.Item (room c.new-sheet.result) bs) (entered c.new-sheet.result) (entered c.copy.new.sheet) (length c.args.out.now) c.in-Ok.accepted
     e.answer e.entered in
-    c.in_ok-examined.ensures ∙ s ∙ ap (saying t) same
+    c.in_ok-examined-in-Ok.ensures ∙ s ∙ ap (saying t) same
 
 pub returns-in-Err : goal.returns-in-Err
 returns-in-Err g c =
@@ -42,5 +42,3 @@ returns-in-Err g c =
     (λ w e. always_written t law (room c.new-sheet.result) bs bytes o refl w (e ∙ ap (λ n. copying n o) size)) c.faulted.ensures in
     MatchResult-weaker c.faulted.result said (λ p e. e ∙ ap (saying t) same) (λ f e. e)
 
-pub returns-in_err-examined : goal.returns-in_err-examined
-returns-in_err-examined g c = let p = err_from_is_err_and c.from_residual.result c.from_residual.ensures.1 in rw p.1 p.2

@@ -7,8 +7,8 @@ use Rattle.report.specs.Reports.{refusing}
 use Rattle.report.proofs.Verdicts.{granted_said, refused_said}
 use Rattle.report.proofs.verdict.certified_onto.Goals as goal
 
-pub returns-in_ok-last : goal.returns-in_ok-last
-returns-in_ok-last g c =
+pub returns-in_ok-last-in-Ok : goal.returns-in_ok-last-in-Ok
+returns-in_ok-last-in-Ok g c =
     let d = c.args.docket.now in
     let e = c.in-Ok.ensures in
     let b = three c.args.ranks.now c.args.instants.now c.args.latenesses.now in
@@ -16,7 +16,7 @@ returns-in_ok-last g c =
     (λ p h.
     granted_said g.I.Item g.H.Holder.seat (entered c.args.sheet.now) c.args.k c.args.order.now (string_bytes p.text) c.certify.new.ranks c.certify.new.instants
     c.certify.new.latenesses c.as_str.result.now p.granted b (ops_in d) (steps_in d) c.in-Ok.certificate c.requires.table c.requires.steps (e.answer c.requires.tied)
-    (e.written c.requires.tied) (c.as_str.ensures.value ∙ c.in_ok-last.ensures) h.0 h.1)
+    (e.written c.requires.tied) (c.as_str.ensures.value ∙ c.in_ok-last-in-Ok.ensures) h.0 h.1)
     c.granted.ensures
 
 pub returns-in-Err : goal.returns-in-Err
