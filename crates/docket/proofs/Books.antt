@@ -1,6 +1,6 @@
 -- A step written down, and taken out again. Assumes nothing.
 use Rattle.std.proofs.Common.{◌≡◌, ℕ, zero, suc, ◌+◌, ◌-◌, ◌<◌, ◌≤◌, Bool, true, false, cond, not, eqb, List, [], ◌∷◌, ◌++◌, length, get_or, take, set, Some, None, Option, sym, refl, ap, ◌∙◌, subst, ⊎_elim, arith}
-use Rattle.std.specs.List.{AllByRecursion as All}
+use Rattle.std.specs.List.{AllByRecursion}
 use Rattle.std.proofs.lemmas.List.{get_or-take, get_or-set_same, get_or-set_other, length-take-le, take_more, take_more_set}
 use Rattle.std.proofs.ByRecursion.{All-from_get_or}
 use Rattle.std.proofs.lemmas.Bool.{cases_lt, cases_eq, cases_Bool, eqb-true, eqb-false, eq-eqb, ne_eqb, not-false, cond-true, cond-false}
@@ -21,7 +21,7 @@ times_self x p = omega (arith, times_push x x p, cond-true {A = ℕ} (eqb x x) 1
 pub times_other : (y x : ℕ) (p : List ℕ) → (y ≡ x → ⊥) → times y (p ++ x ∷ []) ≡ times y p
 times_other y x p ne = omega (arith, times_push y x p, cond-false {A = ℕ} (eqb y x) 1 0 (ne_eqb y x ne))
 
-pub known_all : (n m : ℕ) (ss : List ℕ) → m ≤ length ss → Known n ss m → All (λ x. x < n) (take m ss)
+pub known_all : (n m : ℕ) (ss : List ℕ) → m ≤ length ss → Known n ss m → AllByRecursion (λ x. x < n) (take m ss)
 known_all n m ss l h =
     let e = length-take-le m ss l in
     All-from_get_or (λ (x : ℕ). x < n) (take m ss) 0 (λ i il. let im : i < m = omega arith in rw get_or-take (h i im))

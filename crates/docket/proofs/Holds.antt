@@ -1,6 +1,6 @@
 -- The holder after steps that the rules let pass. Assumes nothing.
 use Rattle.std.proofs.Common.{◌≡◌, ℕ, zero, suc, ◌+◌, ◌-◌, ◌<◌, ◌≤◌, Bool, true, false, cond, not, eqb, ltb, leb, List, [], ◌∷◌, ◌++◌, length, get_or, take, drop, is_ok, Ok, Err, Result, sym, refl, ap, ◌∙◌, ⊎_elim, arith}
-use Rattle.std.specs.List.{insert, AllByRecursion as All}
+use Rattle.std.specs.List.{insert, AllByRecursion}
 use Rattle.std.proofs.lemmas.Bool.{cases_Bool, eqb-true, eq-eqb, ne_eqb, lt-leb, le-ltb, cond-true, cond-false}
 use Rattle.giving.specs.Lists.{times, without, stands}
 use Rattle.giving.proofs.Places.{place_absent}
@@ -39,7 +39,7 @@ module _ (seat : SeatRule) (es : List Entry) (ops : List Paired) where
   abbrev pub Sane : ℕ → Type 0
   Sane x = (x < 1024) × ((entry_of es x).paired.deed ≡ (operation ops x).deed)
 
-  pub replayed_held : (p L : List ℕ) (n : ℕ) → All Sane p → ((y : ℕ) → times y L + times y p ≤ 1) → n + length p ≤ 1024
+  pub replayed_held : (p L : List ℕ) (n : ℕ) → AllByRecursion Sane p → ((y : ℕ) → times y L + times y p ≤ 1) → n + length p ≤ 1024
       → replayed seat es (record { list = L; many = n }) p ≡ record { list = giving_from seat ops L p; many = n + adds_in ops p }
   unfolding replayed
   replayed_held [] L n all once few = let e : n ≡ n + 0 = omega arith in ap (λ (m : ℕ). record { list = L; many = m }) e

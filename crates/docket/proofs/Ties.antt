@@ -1,6 +1,6 @@
 -- A docket in step stays in step, and answers by the rules. Assumes nothing.
 use Rattle.std.proofs.Common.{◌≡◌, ℕ, zero, suc, ◌+◌, ◌-◌, ◌<◌, ◌≤◌, Bool, true, false, cond, not, ◌&&◌, eqb, ltb, leb, List, [], ◌∷◌, ◌++◌, map, length, get_or, take, set, Some, None, Ok, Err, Option, Result, sym, refl, ap, ◌∙◌, ⊎_elim, arith}
-use Rattle.std.specs.List.{AllByRecursion as All}
+use Rattle.std.specs.List.{AllByRecursion}
 use Rattle.std.proofs.ByRecursion.{All-from_get_or}
 use Rattle.std.proofs.lemmas.List.{take_more, take_more_set, length-take-le, length_push, get_or-take, get_or_push}
 use Rattle.std.proofs.lemmas.Bool.{cases_lt, cases_eq, cases_Bool, le-leb, lt-leb, cond-true, cond-false, not_from_true, not_from_false}
@@ -35,7 +35,7 @@ module _ (l : Ledger) where
   pub long_ops : length (ops_of l) ≡ l.count
   long_ops = length_ops l.entries l.count (omega arith)
 
-  pub sane : All (Sane (λ L c. 0) l.entries (ops_of l)) (steps_of l)
+  pub sane : AllByRecursion (Sane (λ L c. 0) l.entries (ops_of l)) (steps_of l)
   sane =
       All-from_get_or (Sane (λ L c. 0) l.entries (ops_of l)) (steps_of l) 0
       (λ i h.

@@ -1,6 +1,6 @@
 -- How often a code stands in a list. Assumes nothing.
 use Rattle.std.proofs.Common.{◌≡◌, ℕ, zero, suc, ◌+◌, ◌-◌, ◌<◌, ◌≤◌, cond, eqb, List, [], ◌∷◌, ◌++◌, reverse, length, get_or, take, drop, sym, refl, ap, ◌∙◌, ⊎_elim, arith, take-append-drop}
-use Rattle.std.specs.List.{insert, remove, AllByRecursion as All}
+use Rattle.std.specs.List.{insert, remove, AllByRecursion}
 use Rattle.std.proofs.lemmas.List.{reverse-append}
 use Rattle.std.proofs.lemmas.Bool.{cond_both, cond-true, cond-false, eqb-true, eqb-false, eq-eqb, ne_eqb, cases_lt, cases_Bool}
 use Rattle.giving.specs.Lists.{times, place, without, Once, Below}
@@ -37,9 +37,9 @@ times_removed a zero (x ∷ xs) = omega arith
 times_removed a (suc i) [] = omega arith
 times_removed a (suc i) (x ∷ xs) = omega (arith, times_removed a i xs)
 
-pub all_without : (P : ℕ → Type 0) (a : ℕ) (L : List ℕ) → All P L → All P (without a L)
+pub all_without : (P : ℕ → Type 0) (a : ℕ) (L : List ℕ) → AllByRecursion P L → AllByRecursion P (without a L)
 all_without P a [] h = tt
-all_without P a (x ∷ xs) h = cond_both (eqb a x) xs (x ∷ without a xs) (All P) (λ e. h.1) (λ e. (h.0, all_without P a xs h.1))
+all_without P a (x ∷ xs) h = cond_both (eqb a x) xs (x ∷ without a xs) (AllByRecursion P) (λ e. h.1) (λ e. (h.0, all_without P a xs h.1))
 
 pub times_reverse : (a : ℕ) (L : List ℕ) → times a (reverse L) ≡ times a L
 times_reverse a [] = refl

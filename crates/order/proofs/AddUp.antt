@@ -1,7 +1,7 @@
 -- The rank errors of a placed order add up to its passings-over: both count the pairs of a step and an item that it passed over. Assumes nothing.
 use Rattle.std.proofs.Common.{◌≡◌, ℕ, ◌+◌, ◌<◌, ◌≤◌, cond, eqb, List, [], ◌∷◌, length, take, drop, sym, ap, ◌∙◌, arith, length-take-le}
 use mathlib.Core.Path.{fun_ext}
-use Rattle.std.specs.List.{AllByRecursion as All}
+use Rattle.std.specs.List.{AllByRecursion}
 use Rattle.std.proofs.ByRecursion.{All-append, All-take, All-drop}
 use Rattle.giving.specs.Lists.{times}
 use Rattle.giving.proofs.Counts.{times_insert, times_take, times_without, all_without, once_more}
@@ -26,14 +26,14 @@ module _ (seat : SeatRule) (x : ℕ) where
   after_times TakeOfNone L b = omega arith
   after_times FoundEmpty L b = omega arith
 
-  after_step_all : (P : ℕ → Type 0) (d : Deed) (L : List ℕ) → P x → All P L → All P (after_step seat x d L)
+  after_step_all : (P : ℕ → Type 0) (d : Deed) (L : List ℕ) → P x → AllByRecursion P L → AllByRecursion P (after_step seat x d L)
   after_step_all P Add L h a = All-append P (take (seat L x) L) (x ∷ drop (seat L x) L) (All-take P (seat L x) L a) (h, All-drop P (seat L x) L a)
   after_step_all P (Take b) L h a = all_without P b L a
   after_step_all P TakeOfNone L h a = a
   after_step_all P FoundEmpty L h a = a
 
 module _ (seat : SeatRule) (ops : List Paired) (k : ℕ) where
-  counted : (p done L : List ℕ) → ((a : ℕ) → times a L ≤ times a done) → ((a : ℕ) → times a done ≤ 1) → All (λ a. a < length ops) L
+  counted : (p done L : List ℕ) → ((a : ℕ) → times a L ≤ times a done) → ((a : ℕ) → times a done ≤ 1) → AllByRecursion (λ a. a < length ops) L
       → PlacedFrom seat ops k done L p → sum (rank_errors_from seat ops L p) ≡ sum_below (length ops) (λ a. lateness_from seat ops a L p)
   counted [] done L sub one low h = sym (sum_below_zero (length ops))
   counted (x ∷ p) done L sub one low h =

@@ -1,6 +1,6 @@
 -- Sums over the numbers below n. Assumes nothing.
 use Rattle.std.proofs.Common.{◌≡◌, ℕ, zero, suc, ◌+◌, ◌<◌, ◌≤◌, cond, eqb, List, [], ◌∷◌, length, take, sym, refl, ap, ⊎_elim, arith}
-use Rattle.std.specs.List.{AllByRecursion as All}
+use Rattle.std.specs.List.{AllByRecursion}
 use Rattle.std.proofs.lemmas.Bool.{cond_both, cond-true, cond-false, eqb-true, eqb-false, eq-eqb, ne_eqb, cases_eq}
 use Rattle.giving.specs.Lists.{times}
 use Rattle.order.specs.Steps.{sum_below, passes_over}
@@ -30,7 +30,7 @@ sum_below_hit (suc n) x h =
     (cases_eq n x)
 
 -- each place of a list is counted at one number
-pub sum_below_times : (n : ℕ) (xs : List ℕ) → All (λ x. x < n) xs → sum_below n (λ a. times a xs) ≡ length xs
+pub sum_below_times : (n : ℕ) (xs : List ℕ) → AllByRecursion (λ x. x < n) xs → sum_below n (λ a. times a xs) ≡ length xs
 sum_below_times n [] h = sum_below_zero n
 sum_below_times n (x ∷ xs) h =
     omega (arith, sum_below_add n (λ a. cond (eqb a x) 1 0) (λ a. times a xs), sum_below_hit n x h.0, sum_below_times n xs h.1)

@@ -1,6 +1,6 @@
 -- True orders are the placed orders of full length. Assumes nothing.
 use Rattle.std.proofs.Common.{◌≡◌, ℕ, ◌+◌, ◌<◌, ◌≤◌, max, eqb, List, [], ◌∷◌, length, sym, refl, ap, ◌∙◌, arith}
-use Rattle.std.specs.List.{AllByRecursion as All}
+use Rattle.std.specs.List.{AllByRecursion}
 use Rattle.std.proofs.lemmas.Bool.{cond_both, cond-true, eqb-true, eq-eqb, le-ltb, ltb-false}
 use Rattle.giving.specs.Lists.{times}
 use Rattle.giving.proofs.Counts.{once_more}
@@ -19,7 +19,7 @@ later ops m (x ∷ p) (t ∷ ts) b i h =
     (λ e l. omega (arith, ap (λ y. (operation ops y).end) (eqb-true b x e))) (λ e l. omega (arith, later ops t p ts b i.3 (omega arith))) h
 
 module _ (seat : SeatRule) (ops : List Paired) (k : ℕ) where
-  pub place_all : (p done L : List ℕ) (m : ℕ) (ts : List ℕ) → All (λ x. x < length ops) p → ((b : ℕ) → b < length ops → times b done + times b p ≡ 1)
+  pub place_all : (p done L : List ℕ) (m : ℕ) (ts : List ℕ) → AllByRecursion (λ x. x < length ops) p → ((b : ℕ) → b < length ops → times b done + times b p ≡ 1)
       → WithinBound seat ops k L p → InstantsFrom ops m p ts → PlacedFrom seat ops k done L p
   place_all [] done L m ts low one near i = tt
   place_all (x ∷ p) done L m [] low one near i = absurd i
@@ -34,7 +34,7 @@ module _ (seat : SeatRule) (ops : List Paired) (k : ℕ) where
     place_all p (x ∷ done) (after_step seat x (operation ops x).deed L) t ts low.1 (λ b l. omega (arith, one b l)) near.2 i.3,
   )
 
-  pub placed_known : (p done L : List ℕ) → PlacedFrom seat ops k done L p → All (λ x. x < length ops) p
+  pub placed_known : (p done L : List ℕ) → PlacedFrom seat ops k done L p → AllByRecursion (λ x. x < length ops) p
   placed_known [] done L h = tt
   placed_known (x ∷ p) done L h = (h.0.known, placed_known p (x ∷ done) (after_step seat x (operation ops x).deed L) h.1)
 

@@ -1,6 +1,6 @@
 -- Which steps may come next, and which orders are true. Assumes nothing.
 use Rattle.std.specs.Prelude.{◌≡◌, ℕ, ◌<◌, ◌≤◌, true, false, List, [], ◌∷◌, length}
-use Rattle.std.specs.List.{AllByRecursion as All}
+use Rattle.std.specs.List.{AllByRecursion}
 use Rattle.giving.specs.Lists.{times}
 use Rattle.order.specs.declared.operation.Paired.{Paired}
 use Rattle.order.specs.Steps.{SeatRule, operation, has_rank, rank_error, after_step}
@@ -32,7 +32,7 @@ module _ (seat : SeatRule) (ops : List Paired) (k : ℕ) where
 
 -- an order that names each operation once and admits instants
 pub record Timed (ops : List Paired) (p : List ℕ) : Type 0 where
-  pub known : All (λ x. x < length ops) p
+  pub known : AllByRecursion (λ x. x < length ops) p
   pub once : (x : ℕ) → x < length ops → times x p ≡ 1
   pub instants : (ts : List ℕ) × Instants ops p ts
 
