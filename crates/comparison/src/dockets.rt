@@ -7,7 +7,7 @@ use calls::fault::{DocketFault, RefusalCode};
 use counting::queue::CountingQueue;
 use docket::attend::attend;
 use docket::slot::Slot;
-use examination::trace::{blank_records, has_stamps};
+use examination::examining::{blank_records, has_stamps};
 use frame::order::Order;
 use holder::holder::Holder;
 use holder::queue::Queue;

@@ -3,7 +3,7 @@ ghost use Rattle.std.specs.Prelude.{◌≡◌};
 
 use crate::hash::{OF_NOTHING, hash_on};
 use crate::words::refusal_words;
-use examination::trace::{blank_records, has_stamps};
+use examination::examining::{blank_records, has_stamps};
 use frame::order::Order;
 use item::item::Item;
 use record::bytes::number_at;

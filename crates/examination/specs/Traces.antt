@@ -13,8 +13,8 @@ use Rattle.order.specs.Orders.{TrueOrder}
 use Rattle.calls.specs.declared.certificate.Certificate.{Certificate}
 use Rattle.calls.specs.Rules.{Buffers}
 use Rattle.docket.specs.Pairs.{paired_all}
-use Rattle.examination.specs.declared.trace.ExamineFault.{ExamineFault}
-use Rattle.examination.specs.declared.trace.ExamineFault.TheVariants.{Refused, NoMemory}
+use Rattle.examination.specs.declared.examining.ExamineFault.{ExamineFault}
+use Rattle.examination.specs.declared.examining.ExamineFault.TheVariants.{Refused, NoMemory}
 use Rattle.examination.specs.Kinds.{seat_of}
 use Rattle.examination.specs.Orders.{order_answer, order_written}
 

@@ -5,7 +5,7 @@ ghost use Rattle.docket.specs.InStep.{three};
 ghost use Rattle.examination.specs.Kinds.{seat_of};
 ghost use Rattle.examination.specs.Orders.{order_answer, order_written};
 
-use crate::order::certify_order;
+use crate::certifying::certify_order;
 use calls::certificate::Certificate;
 use counting::queue::CountingQueue;
 use holder::queue::Queue;

@@ -2,6 +2,6 @@
 // that is broken.
 #![tactic(auto)]
 
+pub mod certifying;
+pub mod examining;
 pub mod kind;
-pub mod order;
-pub mod trace;

@@ -3,8 +3,8 @@ use Rattle.std.specs.Prelude.{ℕ, cond, List, ◌++◌, length, drop, Ok, Err, 
 use Rattle.refusal.specs.declared.Layer.{Layer}
 use Rattle.refusal.specs.declared.Layer.TheVariants.{Frame, Record, Item, Sheet, Docket, Holder}
 use Rattle.calls.specs.declared.certificate.Certificate.{Certificate}
-use Rattle.examination.specs.declared.trace.ExamineFault.{ExamineFault}
-use Rattle.examination.specs.declared.trace.ExamineFault.TheVariants.{Refused, NoMemory}
+use Rattle.examination.specs.declared.examining.ExamineFault.{ExamineFault}
+use Rattle.examination.specs.declared.examining.ExamineFault.TheVariants.{Refused, NoMemory}
 use Rattle.exports.specs.declared.PlainOutcome.{PlainOutcome}
 
 -- the layers, numbered from the bytes upward

@@ -4,13 +4,13 @@
 ghost use Rattle.std.specs.Prelude.{◌≡◌, length, Result};
 ghost use Rattle.calls.specs.declared.certificate.Certificate.{Certificate};
 ghost use Rattle.docket.specs.InStep.{three};
-ghost use Rattle.examination.specs.declared.trace.ExamineFault.{ExamineFault};
+ghost use Rattle.examination.specs.declared.examining.ExamineFault.{ExamineFault};
 ghost use Rattle.examination.specs.Traces.{examination_of, Comes};
 ghost use Rattle.exports.specs.Plain.{number_of_layer, plain, laid};
 
 use calls::certificate::Certificate;
 use comparison::case::answer_case;
-use examination::trace::{ExamineFault, certify_trace};
+use examination::examining::{ExamineFault, certify_trace};
 use refusal::Layer;
 use report::report::report_trace;
 use std::alloc::Global;

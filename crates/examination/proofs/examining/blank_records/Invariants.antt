@@ -1,5 +1,5 @@
 use Rattle.std.proofs.Common.{◌-◌, ◌≤◌, vec_len}
-use Rattle.examination.proofs.trace.blank_records.Given as goal
+use Rattle.examination.proofs.examining.blank_records.Given as goal
 
 abbrev pub invariant-loop-records : goal.invariant-loop-records
 invariant-loop-records g l = vec_len l.records ≤ l.count

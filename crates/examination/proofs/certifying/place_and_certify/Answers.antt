@@ -7,7 +7,7 @@ use Rattle.docket.specs.Pairs.{sheet_ops}
 use Rattle.docket.specs.Tied.{ops_in, steps_in, bound_in, running}
 use Rattle.examination.specs.Orders.{refused_as}
 use Rattle.examination.proofs.Runs.{ran_whole, run_is, not_stopped, stopped_answer, certified_answer}
-use Rattle.examination.proofs.order.place_and_certify.Goals as goal
+use Rattle.examination.proofs.certifying.place_and_certify.Goals as goal
 
 pub returns-then-stopped-ne0 : goal.returns-then-stopped-ne0
 returns-then-stopped-ne0 g c =

@@ -2,7 +2,7 @@ use Rattle.std.proofs.Common.{length}
 use Rattle.docket.specs.InStep.{three}
 use Rattle.docket.specs.Pairs.{sheet_ops}
 use Rattle.examination.proofs.Grants.{granted_exactly}
-use Rattle.examination.proofs.order.certify_order.Goals as goal
+use Rattle.examination.proofs.certifying.certify_order.Goals as goal
 
 pub returns : goal.returns
 returns g c =

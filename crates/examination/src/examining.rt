@@ -5,7 +5,7 @@ ghost use Rattle.frame.specs.Orders.{order_of};
 ghost use Rattle.trace.specs.Reading.{reading};
 ghost use Rattle.docket.specs.Pairs.{sheet_ops};
 ghost use Rattle.docket.specs.InStep.{three};
-ghost use Rattle.examination.specs.declared.trace.ExamineFault.TheVariants.{NoMemory};
+ghost use Rattle.examination.specs.declared.examining.ExamineFault.TheVariants.{NoMemory};
 ghost use Rattle.examination.specs.Kinds.{seat_of};
 ghost use Rattle.examination.specs.Orders.{order_answer, order_written};
 ghost use Rattle.examination.specs.Traces.{examining, type_of, examination_of, Comes};

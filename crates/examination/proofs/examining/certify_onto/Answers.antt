@@ -4,7 +4,7 @@ use Rattle.trace.specs.Reading.{reading}
 use Rattle.docket.specs.InStep.{three}
 use Rattle.examination.specs.Traces.{Examined, examining, Comes}
 use Rattle.examination.proofs.Traces.{accepted_examined, refused_examined}
-use Rattle.examination.proofs.trace.certify_onto.Goals as goal
+use Rattle.examination.proofs.examining.certify_onto.Goals as goal
 
 pub returns-in-Ok : goal.returns-in-Ok
 returns-in-Ok g c =
