@@ -8,7 +8,7 @@ use Rattle.order.specs.Orders.{Placed}
 use Rattle.order.proofs.AddUp.{add_up}
 use Rattle.order.proofs.InTime.{placed_in_time_order}
 use Rattle.calls.specs.Faults.{code_of}
-use Rattle.calls.specs.Rules.{Run, run_of, certificate_of, written}
+use Rattle.calls.specs.Rules.{Run, run_of, written}
 use Rattle.calls.specs.Calls.{Call, run, to_run, answer_for, answers_for, placed_by}
 use Rattle.calls.specs.Meanings.{Granted}
 use Rattle.calls.specs.Laws.{LawOfCalls}

@@ -1,5 +1,5 @@
 -- What the position of a code says of a queue by counting. Assumes nothing.
-use Rattle.std.proofs.Common.{◌≡◌, ℕ, ◌+◌, ◌-◌, ◌<◌, ◌≤◌, length, get_or, sym, ap, ◌∙◌, arith}
+use Rattle.std.proofs.Common.{◌≡◌, ℕ, ◌+◌, ◌-◌, ◌<◌, ◌≤◌, length, get_or, ap, ◌∙◌, arith}
 use Rattle.giving.specs.Lists.{place}
 use Rattle.giving.proofs.Places.{place_absent}
 use Rattle.counting.specs.declared.queue.CountingQueue.{CountingQueue}

@@ -10,7 +10,7 @@ use Rattle.giving.specs.Lists.{times, place, without, Once, Below}
 use Rattle.giving.proofs.Counts.{times_none, once_more}
 use Rattle.giving.proofs.Places.{place_only, removed_without}
 use Rattle.counting.specs.Blocks.{used, upto}
-use Rattle.counting.specs.Slots.{codes, FreeFrom, Placed, Back}
+use Rattle.counting.specs.Slots.{codes, FreeFrom, Placed}
 use Rattle.counting.specs.Sums.{upto_le}
 
 codes_append : (xs ys : List ℕ) → codes (xs ++ ys) ≡ codes xs ++ codes ys

@@ -3,7 +3,7 @@ ghost use Rattle.std.specs.Prelude.{◌≡◌, ◌≤◌, [], length, slice_inde
 ghost use Rattle.holder.specs.Kinds.{queue_seat};
 ghost use Rattle.counting.specs.Slots.{codes, FreeFrom, Placed, Back};
 ghost use Rattle.counting.specs.Codes.{codes_once, codes_below, codes_few};
-ghost use Rattle.std.proofs.Common.{rules, arith};
+ghost use Rattle.std.proofs.Common.{rules};
 
 use crate::arrivals::Arrivals;
 use holder::fault::HolderFault;
@@ -52,7 +52,7 @@ impl Holder for CountingQueue {
 
     ghost seat = { queue_seat };
 
-    ghost seated = { first_of (Prim.search rules, Prim.grind (arith, Self.row.coded.inj)) };
+    ghost seated = { Prim.search rules };
 
     ghost sound = { λ q.
         record {

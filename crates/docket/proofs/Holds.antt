@@ -1,7 +1,7 @@
 -- The holder after steps that the rules let pass. Assumes nothing.
-use Rattle.std.proofs.Common.{◌≡◌, ℕ, zero, suc, ◌+◌, ◌-◌, ◌<◌, ◌≤◌, Bool, true, false, cond, not, eqb, ltb, leb, List, [], ◌∷◌, ◌++◌, length, get_or, take, drop, is_ok, Ok, Err, Result, sym, refl, ap, ◌∙◌, ⊎_elim, arith}
+use Rattle.std.proofs.Common.{◌≡◌, ℕ, ◌+◌, ◌<◌, ◌≤◌, true, false, cond, eqb, leb, List, [], ◌∷◌, length, is_ok, refl, ap, ◌∙◌, arith}
 use Rattle.std.specs.List.{insert, AllByRecursion}
-use Rattle.std.proofs.lemmas.Bool.{cases_Bool, eqb-true, eq-eqb, ne_eqb, lt-leb, le-ltb, cond-true, cond-false}
+use Rattle.std.proofs.lemmas.Bool.{eq-eqb, lt-leb, le-ltb, cond-true}
 use Rattle.giving.specs.Lists.{times, without, stands}
 use Rattle.giving.proofs.Places.{place_absent}
 use Rattle.order.specs.declared.operation.Deed.{Deed}

@@ -1,9 +1,9 @@
 -- A docket in step stays in step, and answers by the rules. Assumes nothing.
-use Rattle.std.proofs.Common.{◌≡◌, ℕ, zero, suc, ◌+◌, ◌-◌, ◌<◌, ◌≤◌, Bool, true, false, cond, not, ◌&&◌, eqb, ltb, leb, List, [], ◌∷◌, ◌++◌, map, length, get_or, take, set, Some, None, Ok, Err, Option, Result, sym, refl, ap, ◌∙◌, ⊎_elim, arith}
+use Rattle.std.proofs.Common.{◌≡◌, ℕ, ◌+◌, ◌<◌, ◌≤◌, Bool, true, false, cond, not, ◌&&◌, eqb, ltb, leb, List, [], ◌∷◌, ◌++◌, map, length, get_or, take, set, Some, None, Ok, Err, Option, Result, sym, refl, ap, ◌∙◌, ⊎_elim, arith}
 use Rattle.std.specs.List.{AllByRecursion}
 use Rattle.std.proofs.ByRecursion.{All-from_get_or}
-use Rattle.std.proofs.lemmas.List.{take_more, take_more_set, length-take-le, length_push, get_or-take, get_or_push}
-use Rattle.std.proofs.lemmas.Bool.{cases_lt, cases_eq, cases_Bool, le-leb, lt-leb, cond-true, cond-false, not_from_true, not_from_false}
+use Rattle.std.proofs.lemmas.List.{take_more_set, length-take-le, get_or-take}
+use Rattle.std.proofs.lemmas.Bool.{cases_lt, cases_Bool, le-leb, cond-true, cond-false}
 use Rattle.giving.specs.Lists.{times}
 use Rattle.giving.proofs.Counts.{times_take}
 use Rattle.order.specs.declared.operation.Deed.{Deed}
@@ -18,11 +18,11 @@ use Rattle.docket.specs.declared.ledger.Ledger.{Ledger}
 use Rattle.docket.specs.Kept.{blank, entry_of}
 use Rattle.docket.specs.InStep.{paired_in, ops_of, steps_of, InStep}
 use Rattle.docket.specs.Moves.{Stand, stepped, rank_found, waits, judged, judged_rank, judged_wait, moved_by, with_flag, changed_at, changed_all}
-use Rattle.docket.proofs.Books.{lowest_ext, unflagged, room, known_all, last_step, none_before}
-use Rattle.docket.proofs.Turns.{judged_beyond, judged_in}
+use Rattle.docket.proofs.Books.{lowest_ext, unflagged, room}
+use Rattle.docket.proofs.Turns.{judged_in}
 use Rattle.docket.proofs.Pushes.{held_push, ranks_push, lateness_push, lateness_le, held_times, adds_push, adds_le}
-use Rattle.docket.proofs.Table.{op_at, length_ops, keeps_one, keeps_all, map_keeps_one, map_keeps_all, length_changed_all, late_up, late_down}
-use Rattle.docket.proofs.Holds.{Sane, stepped_after, replayed_held}
+use Rattle.docket.proofs.Table.{op_at, length_ops, keeps_one, map_keeps_one, map_keeps_all, late_up}
+use Rattle.docket.proofs.Holds.{Sane, stepped_after}
 
 -- ---- what a ledger says of itself
 module _ (l : Ledger) where

@@ -1,7 +1,6 @@
 -- What every ledger keeps. Assumes nothing.
-use Rattle.std.specs.Prelude.{◌≡◌, ℕ, ◌<◌, ◌≤◌, Bool, false, not, List, length, take, slice_index, slice_index_or}
+use Rattle.std.specs.Prelude.{◌≡◌, ℕ, ◌<◌, ◌≤◌, false, not, List, length, take, slice_index, slice_index_or}
 use Rattle.order.specs.declared.operation.Deed.TheVariants.{Add}
-use Rattle.order.specs.declared.operation.Paired.{Paired}
 use Rattle.calls.specs.Rules.{unplaced}
 use Rattle.docket.specs.declared.entry.Entry.{Entry}
 

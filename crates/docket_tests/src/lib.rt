@@ -239,10 +239,14 @@ mod tests {
         let mut order = Vec::new(rt.alloc());
         for i in 0..1023u16 {
             let item = Ticket { number: i as u32 };
-            assert!(sheet.enter(during(Method::Add(item), 0, 0)).is_ok());
+            if sheet.enter(during(Method::Add(item), 0, 0)).is_err() {
+                return Err(Fail::new("an add was not entered"));
+            }
             order.push(i)?;
         }
-        assert!(sheet.enter(during(Method::FoundEmpty, 0, 0)).is_ok());
+        if sheet.enter(during(Method::FoundEmpty, 0, 0)).is_err() {
+            return Err(Fail::new("the found-empty was not entered"));
+        }
         order.push(1023)?;
         let mut slots = examination(&order, rt)?;
         let docket = attend(&sheet, Queue::new(), k, &mut slots);

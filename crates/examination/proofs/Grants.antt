@@ -1,5 +1,5 @@
 -- A certificate is granted exactly when the order is true.
-use Rattle.std.proofs.Common.{◌≡◌, ℕ, Bool, true, false, List, [], ◌∷◌, length, is_ok, Some, None, Ok, Err, Option, Result, sym, refl, ap, ◌∙◌, subst, arith}
+use Rattle.std.proofs.Common.{◌≡◌, ℕ, true, false, List, [], ◌∷◌, length, is_ok, Some, None, Ok, Err, Option, Result, sym, refl, ap, ◌∙◌, subst, arith}
 use Rattle.order.specs.declared.operation.Paired.{Paired}
 use Rattle.order.specs.Steps.{SeatRule}
 use Rattle.order.specs.Orders.{TrueOrder}
@@ -7,11 +7,11 @@ use Rattle.refusal.specs.declared.Refusal.{Refusal}
 use Rattle.calls.specs.declared.certificate.Certificate.{Certificate}
 use Rattle.calls.specs.declared.fault.DocketFault.{DocketFault}
 use Rattle.calls.specs.Calls.{run}
-use Rattle.calls.specs.Rules.{Run, run_of, Buffers, is_too_short, certificate_of, certify_answer}
+use Rattle.calls.specs.Rules.{Run, run_of, Buffers, is_too_short, certify_answer}
 use Rattle.calls.proofs.Grants.{true_granted}
 use Rattle.calls.proofs.Law.{the_law}
 use Rattle.calls.proofs.Turns.{whole}
-use Rattle.examination.specs.Orders.{unless_stopped, refused_as, order_outcome, order_answer}
+use Rattle.examination.specs.Orders.{unless_stopped, refused_as, order_answer}
 use Rattle.examination.proofs.Runs.{ran_whole}
 
 ok_unstopped : (s : Option DocketFault) (a : Result Certificate DocketFault) → is_ok (refused_as (unless_stopped s a)) ≡ true → (s ≡ None) × (is_ok a ≡ true)

@@ -1,5 +1,5 @@
 -- A run of a whole order, and what it answers in plain numbers.
-use Rattle.std.proofs.Common.{◌≡◌, ℕ, List, [], Some, None, Ok, Err, Option, Result, sym, refl, ap, ◌∙◌, ⊎_elim, arith}
+use Rattle.std.proofs.Common.{◌≡◌, ℕ, List, [], Some, None, Err, Option, Result, refl, ap, ◌∙◌, ⊎_elim, arith}
 use Rattle.refusal.specs.declared.Layer.TheVariants.{Docket}
 use Rattle.refusal.specs.declared.Refusal.{Refusal}
 use Rattle.order.specs.declared.operation.Paired.{Paired}
@@ -11,7 +11,7 @@ use Rattle.calls.specs.declared.fault.RefusalCode.{RefusalCode}
 use Rattle.calls.specs.Faults.{docket_refusal, code_of}
 use Rattle.calls.specs.Rules.{Run, run_of, Buffers, certify_answer, written}
 use Rattle.calls.proofs.Turns.{Outcome, outcome}
-use Rattle.examination.specs.Orders.{unless_stopped, refused_as, order_outcome}
+use Rattle.examination.specs.Orders.{unless_stopped, refused_as}
 
 -- a run that nothing stopped placed the whole order
 ran : (seat : SeatRule) (ops : List Paired) (k : ℕ) (xs : List ℕ) (R : Run) → Outcome seat ops k [] 0 xs R → R.stopped ≡ None → R.steps ≡ xs

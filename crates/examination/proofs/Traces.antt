@@ -1,13 +1,11 @@
 -- What the examination of a trace comes to, by the outcome of reading it.
-use Rattle.std.proofs.Common.{◌≡◌, ℕ, List, Ok, Err, Result, sym, refl, ap, ◌∙◌, arith}
+use Rattle.std.proofs.Common.{◌≡◌, ℕ, List, Ok, Err, refl, ap, ◌∙◌, arith}
 use Rattle.item.specs.declared.item.Item.{Ghosts}
 use Rattle.sheet.specs.declared.operation.Operation.{Operation}
-use Rattle.frame.specs.Orders.{order_of}
 use Rattle.trace.specs.declared.fault.ReadFault.{ReadFault}
 use Rattle.trace.specs.declared.fault.ReadFault.TheVariants.{Frame, Entry}
 use Rattle.trace.specs.declared.read.Accepted.{Accepted}
 use Rattle.trace.specs.Answers.{Said, said, saying_of, answered, held}
-use Rattle.trace.specs.Contents.{Contents}
 use Rattle.trace.specs.Faults.{read_refusal}
 use Rattle.trace.specs.Reading.{Outcome}
 use Rattle.trace.specs.Reading.Outcome.{unread, refused, accepted}

@@ -1,10 +1,10 @@
 -- Where a code stands in a list, and the list without it. Assumes nothing.
-use Rattle.std.proofs.Common.{◌≡◌, ℕ, zero, suc, ◌+◌, ◌-◌, ◌<◌, ◌≤◌, Bool, true, false, cond, eqb, ltb, List, [], ◌∷◌, ◌++◌, reverse, length, get_or, take, drop, sym, refl, ap, ◌∙◌, ⊎_elim, arith}
+use Rattle.std.proofs.Common.{◌≡◌, ℕ, zero, suc, ◌+◌, ◌-◌, ◌<◌, ◌≤◌, true, false, cond, eqb, ltb, List, [], ◌∷◌, ◌++◌, reverse, length, get_or, drop, sym, refl, ap, ◌∙◌, ⊎_elim, arith}
 use Rattle.std.specs.List.{insert, remove}
-use Rattle.std.proofs.lemmas.List.{reverse-append, length-reverse, get_or-reverse, append-nil, take_all, drop_all, at_drop_more, at_drop_all}
-use Rattle.std.proofs.lemmas.Bool.{cond_both, cond-true, cond-false, eqb-true, eqb-false, eq-eqb, ne_eqb, lt-ltb, le-ltb, cases_lt, cases_Bool}
+use Rattle.std.proofs.lemmas.List.{reverse-append, length-reverse, get_or-reverse, append-nil, take_all, drop_all, at_drop_more}
+use Rattle.std.proofs.lemmas.Bool.{cond_both, cond-true, cond-false, eqb-true, eq-eqb, ne_eqb, lt-ltb, le-ltb, cases_lt, cases_Bool}
 use Rattle.giving.specs.Lists.{times, place, stands, without, Once}
-use Rattle.giving.proofs.Counts.{times_append, times_reverse, times_at, once_fewer}
+use Rattle.giving.proofs.Counts.{times_reverse, times_at, once_fewer}
 
 pub place_le : (a : ℕ) (L : List ℕ) → place a L ≤ length L
 place_le a [] = omega arith

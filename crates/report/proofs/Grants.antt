@@ -9,7 +9,7 @@ use Rattle.order.specs.Orders.{TrueOrder}
 use Rattle.calls.specs.declared.certificate.Certificate.{Certificate}
 use Rattle.calls.specs.declared.fault.DocketFault.{DocketFault}
 use Rattle.calls.specs.declared.fault.DocketFault.TheVariants.{BufferTooShort}
-use Rattle.calls.specs.Calls.{Call, run}
+use Rattle.calls.specs.Calls.{run}
 use Rattle.calls.specs.Rules.{Run, run_of, Buffers, missing, unless_missing, is_too_short, certificate_of, certify_answer}
 use Rattle.calls.proofs.Grants.{false_short, true_granted}
 use Rattle.calls.proofs.Law.{the_law}

@@ -1,5 +1,5 @@
 -- What is said of the outcome of reading a trace and writing it back.
-use Rattle.std.proofs.Common.{◌≡◌, ℕ, ◌+◌, ◌*◌, Bool, true, false, cond, not, ltb, List, [], ◌++◌, length, drop, Some, None, Ok, Err, Decides, Result, sym, refl, ap, ◌∙◌, append-nil, arith, MatchResult}
+use Rattle.std.proofs.Common.{◌≡◌, ℕ, ◌+◌, ◌*◌, Bool, true, false, cond, not, ltb, List, ◌++◌, length, drop, Some, Ok, Err, Result, sym, refl, ap, ◌∙◌, append-nil, arith, MatchResult}
 use Rattle.std.proofs.lemmas.List.{drop_all}
 use Rattle.std.proofs.lemmas.Bool.Decides.{Decides-eqb}
 use Rattle.std.proofs.lemmas.Slice.Eq.{slice_eq-Decides}
@@ -25,7 +25,7 @@ use Rattle.trace.specs.Reading.Outcome.{unread, refused, accepted}
 use Rattle.report.specs.declared.verdict.Report.{Report}
 use Rattle.report.specs.declared.report.ReportFault.{ReportFault}
 use Rattle.report.specs.declared.report.ReportFault.TheVariants as fault
-use Rattle.report.specs.Reports.{Verdict, verdict_in, refusing, seat_of, verdict_of_order, saying}
+use Rattle.report.specs.Reports.{verdict_in, refusing, seat_of, verdict_of_order, saying}
 
 -- written back into memory as long as the trace, it is never anything else
 pub never_differs : (out bs mem : List ℕ) (r : Bool) → r ≡ not (pointwise eqb out bs) →

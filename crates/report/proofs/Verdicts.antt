@@ -1,5 +1,5 @@
 -- From the answers of a docket to what is printed.
-use Rattle.std.proofs.Common.{◌≡◌, ℕ, zero, suc, ◌<◌, ◌≤◌, Bool, true, false, cond, List, [], ◌++◌, length, get_or, drop, Some, None, Ok, Err, Option, Result, sym, refl, ap, ◌∙◌, ⊎_elim, arith}
+use Rattle.std.proofs.Common.{◌≡◌, ℕ, zero, suc, ◌<◌, ◌≤◌, Bool, true, false, cond, List, [], ◌++◌, length, get_or, drop, Some, None, Ok, Err, Option, sym, refl, ap, ◌∙◌, ⊎_elim, arith}
 use lib.ListN.{length-map, get_or-append}
 use Rattle.std.specs.List.{slice_get}
 use Rattle.refusal.specs.declared.Layer.TheVariants.{Docket}
@@ -19,7 +19,7 @@ use Rattle.calls.proofs.Grants.{length_values, false_short}
 use Rattle.calls.proofs.Turns.{Outcome, outcome}
 use Rattle.docket.specs.Pairs.{paired_all, paired_of}
 use Rattle.report.specs.Lines.{up_to, step_at, line_of_step, lines_of_steps, late_of, late_at, lines_of_lates, line_of_certified}
-use Rattle.report.specs.Reports.{Verdict, refusing, whole, stopping, certificate_text}
+use Rattle.report.specs.Reports.{refusing, whole, stopping, certificate_text}
 
 -- ---- lines from the front of a buffer
 

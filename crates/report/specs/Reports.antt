@@ -8,7 +8,6 @@ use Rattle.item.specs.Stamps.{stamp_items}
 use Rattle.sheet.specs.declared.operation.Operation.{Operation}
 use Rattle.frame.specs.Faults.{frame_refusal}
 use Rattle.trace.specs.Faults.{entry_refusal}
-use Rattle.trace.specs.Contents.{Contents}
 use Rattle.trace.specs.Reading.{Outcome, reading}
 use Rattle.trace.specs.Reading.Outcome.{unread, refused, accepted}
 use Rattle.holder.specs.Kinds.{queue_seat, stack_seat}

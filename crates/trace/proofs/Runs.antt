@@ -11,7 +11,7 @@ use Rattle.sheet.specs.Entering.{enter_answer}
 use Rattle.sheet.proofs.Entries.{enter_number}
 use Rattle.record.specs.declared.fault.RecordFault.{RecordFault}
 use Rattle.record.specs.Bytes.{Bytes}
-use Rattle.record.specs.Records.{decode_record, encode_record, Fit}
+use Rattle.record.specs.Records.{decode_record, encode_record}
 use Rattle.record.proofs.Digits.{bytes_take, bytes_drop}
 use Rattle.record.proofs.Codec.{length_record, record_there, record_back}
 use Rattle.trace.specs.declared.fault.EntryFault.{EntryFault}

@@ -1,4 +1,4 @@
-use Rattle.std.proofs.Common.{◌≡◌, ℕ, length, arith}
+use Rattle.std.proofs.Common.{◌≡◌, length, arith}
 use Rattle.std.proofs.lemmas.List.{at_drop_all}
 use Rattle.giving.specs.Lists.{place}
 use Rattle.giving.proofs.Places.{found, found_here, found_later}

@@ -1,4 +1,4 @@
-use Rattle.std.proofs.Common.{◌≡◌, Bool, ltb, sym, ap, ◌∙◌}
+use Rattle.std.proofs.Common.{◌≡◌, ltb, sym, ap, ◌∙◌}
 use Rattle.giving.specs.Lists.{place}
 use Rattle.giving.proofs.Places.{before_without, before_inserted}
 use Rattle.giving.proofs.stands_before.Goals as goal

@@ -1,5 +1,4 @@
-use Rattle.std.proofs.Common.{◌≡◌, ◌*◌, ◌%◌, ◌^◌, ◌<◌, ◌≤◌, refl, arith}
-use lib.Count.{count_trailing_zeros}
+use Rattle.std.proofs.Common.{arith}
 use Rattle.counting.specs.Blocks.{block}
 use Rattle.counting.specs.Lows.{block_some, block_le}
 use Rattle.counting.proofs.blocks.block_len.Goals as goal

@@ -1,4 +1,4 @@
-use Rattle.std.proofs.Common.{◌≡◌, ◌+◌, ◌-◌, ◌<◌, get_or, arith}
+use Rattle.std.proofs.Common.{◌+◌, ◌-◌, get_or, arith}
 use Rattle.counting.specs.Blocks.{block}
 use Rattle.counting.specs.Sums.{from_on, from_off}
 use Rattle.counting.proofs.Chains.{walk_start, walk_more}

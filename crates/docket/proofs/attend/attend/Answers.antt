@@ -1,4 +1,4 @@
-use Rattle.std.proofs.Common.{◌≡◌, List, map, ◌∙◌}
+use Rattle.std.proofs.Common.{List, map, ◌∙◌}
 use Rattle.calls.specs.Calls.{Call}
 use Rattle.calls.proofs.Law.{the_law}
 use Rattle.docket.specs.Pairs.{sheet_ops}

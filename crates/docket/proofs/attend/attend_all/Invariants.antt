@@ -1,4 +1,4 @@
-use Rattle.std.proofs.Common.{◌≡◌, ℕ, ◌≤◌, List, ◌++◌, map, get_or, take, drop}
+use Rattle.std.proofs.Common.{◌≡◌, ℕ, ◌≤◌, ◌++◌, map, get_or, take, drop}
 use Rattle.std.specs.List.{AllZip}
 use Rattle.docket.specs.declared.slot.Slot.{Slot}
 use Rattle.calls.specs.Calls.{answers_for, placed_by}

@@ -1,4 +1,4 @@
-use Rattle.std.proofs.Common.{◌≡◌, vec_items, sym, refl, ap, ◌∙◌}
+use Rattle.std.proofs.Common.{vec_items, refl, ◌∙◌}
 use Rattle.std.specs.Vec.{with_items}
 use Rattle.std.proofs.lemmas.List.{with_items_is}
 use Rattle.docket.proofs.Slotted.{place_replied, place_left, run_replied, run_left, lift_replied, lift_left, certify_replied, certify_left, three_same, keeps_place, keeps_run, keeps_lift, keeps_certify}

@@ -1,4 +1,3 @@
-use Rattle.std.proofs.Common.{length}
 use Rattle.docket.specs.InStep.{three}
 use Rattle.docket.specs.Pairs.{sheet_ops}
 use Rattle.examination.proofs.Grants.{granted_exactly}

@@ -1,4 +1,4 @@
-use Rattle.std.proofs.Common.{◌≡◌, [], Err, sym, ap, ◌∙◌}
+use Rattle.std.proofs.Common.{[], Err, sym, ap, ◌∙◌}
 use Rattle.calls.specs.declared.fault.RefusalCode.{RefusalCode}
 use Rattle.calls.specs.Faults.{code_of}
 use Rattle.calls.specs.Rules.{Run, run_of, certify_answer}

@@ -1,4 +1,4 @@
-use Rattle.std.proofs.Common.{◌≡◌, min, length, Err, sym, ap, ◌∙◌, subst}
+use Rattle.std.proofs.Common.{min, length, Err, sym, ap, ◌∙◌, subst}
 use Rattle.sheet.specs.Sheets.{entered, room}
 use Rattle.trace.specs.Reading.{reading}
 use Rattle.docket.specs.InStep.{three}

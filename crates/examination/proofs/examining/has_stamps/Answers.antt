@@ -1,4 +1,4 @@
-use Rattle.std.proofs.Common.{◌≡◌, ◌/◌, eqb, length, sym, ap, ◌∙◌, arith}
+use Rattle.std.proofs.Common.{◌/◌, eqb, length, sym, ap, ◌∙◌, arith}
 use Rattle.std.proofs.lemmas.List.{get_or_past}
 use Rattle.std.proofs.lemmas.Bool.{le-ltb}
 use Rattle.examination.proofs.examining.has_stamps.Goals as goal

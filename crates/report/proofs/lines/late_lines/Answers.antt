@@ -1,4 +1,4 @@
-use Rattle.std.proofs.Common.{◌≡◌, ◌++◌, get_or, string_bytes, sym, ap, ◌∙◌}
+use Rattle.std.proofs.Common.{◌++◌, get_or, string_bytes, sym, ap, ◌∙◌}
 use Rattle.sheet.specs.Sheets.{entered}
 use Rattle.report.specs.Lines.{late_at, late_of}
 use Rattle.report.proofs.Listings.{one_more, none_more}

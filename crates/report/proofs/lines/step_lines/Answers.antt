@@ -1,4 +1,4 @@
-use Rattle.std.proofs.Common.{◌≡◌, ◌++◌, string_bytes, sym, ap, ◌∙◌}
+use Rattle.std.proofs.Common.{◌++◌, string_bytes, sym, ap, ◌∙◌}
 use Rattle.report.specs.Lines.{step_at}
 use Rattle.report.proofs.Listings.{one_more}
 use Rattle.report.proofs.lines.step_lines.Goals as goal

@@ -1,11 +1,10 @@
-use Rattle.std.proofs.Common.{◌≡◌, min, Bool, true, length, sym, refl, ap, ◌∙◌, arith}
-use Rattle.std.proofs.lemmas.Result.{MatchResult-weaker, err_from_is_err_and}
+use Rattle.std.proofs.Common.{◌≡◌, min, length, refl, ap, ◌∙◌, arith}
+use Rattle.std.proofs.lemmas.Result.{MatchResult-weaker}
 use Rattle.item.specs.Items.{Lawful}
 use Rattle.sheet.specs.Sheets.{entered, room}
 use Rattle.record.specs.Bytes.{Bytes}
-use Rattle.trace.specs.Reading.{Outcome, reading}
-use Rattle.trace.specs.Copying.{copying, Copied}
-use Rattle.trace.specs.Answers.{held}
+use Rattle.trace.specs.Reading.{reading}
+use Rattle.trace.specs.Copying.{copying}
 use Rattle.trace.proofs.Copies.{always_written}
 use Rattle.report.specs.Reports.{saying}
 use Rattle.report.proofs.Sayings.{never_differs, examined_said, fault_said}
@@ -41,4 +40,3 @@ returns-in-Err g c =
     fault_said t o (length c.args.out.now) c.in-Err.fault c.faulted.result c.in-Err.ensures.answer
     (λ w e. always_written t law (room c.new-sheet.result) bs bytes o refl w (e ∙ ap (λ n. copying n o) size)) c.faulted.ensures in
     MatchResult-weaker c.faulted.result said (λ p e. e ∙ ap (saying t) same) (λ f e. e)
-

@@ -1,4 +1,4 @@
-use Rattle.std.proofs.Common.{◌≡◌, ◌++◌, string_bytes, sym, refl, ap, ◌∙◌, append_assoc}
+use Rattle.std.proofs.Common.{◌≡◌, ◌++◌, string_bytes, refl, ap, ◌∙◌, append_assoc}
 use Rattle.sheet.specs.Sheets.{entered}
 use Rattle.report.specs.Lines.{lines_of_steps, lines_of_lates}
 use Rattle.report.proofs.verdict.granted.Goals as goal

@@ -1,9 +1,6 @@
-use Rattle.std.proofs.Common.{◌≡◌, [], None, sym, ap, ◌∙◌}
-use Rattle.calls.specs.Faults.{code_of}
+use Rattle.std.proofs.Common.{◌≡◌, [], sym, ap, ◌∙◌}
 use Rattle.calls.specs.declared.fault.RefusalCode.{RefusalCode}
-use Rattle.calls.specs.declared.fault.DocketFault.{DocketFault}
 use Rattle.calls.specs.Rules.{Run, run_of}
-use Rattle.std.proofs.lemmas.Result.{IfOk-weaker}
 use Rattle.sheet.specs.Sheets.{entered}
 use Rattle.docket.specs.Pairs.{paired_all}
 use Rattle.docket.specs.Tied.{ops_in, steps_in, bound_in, running}

@@ -1,4 +1,3 @@
-use Rattle.std.proofs.Common.{arith}
 use Rattle.sheet.proofs.Searches.{found, passed, nowhere}
 use Rattle.sheet.proofs.alike.first_alike.Goals as goal
 

@@ -1,4 +1,4 @@
-use Rattle.std.proofs.Common.{◌≡◌, ◌+◌, ◌*◌, length, take, Ok, Err, sym, refl, ap, ◌∙◌}
+use Rattle.std.proofs.Common.{length, take, Ok, sym, refl, ap, ◌∙◌}
 use Rattle.std.proofs.lemmas.Result.{err_from_is_err_and}
 use Rattle.sheet.specs.Sheets.{entered, room}
 use Rattle.frame.specs.Orders.{order_of}

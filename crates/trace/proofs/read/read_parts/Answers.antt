@@ -1,8 +1,7 @@
-use Rattle.std.proofs.Common.{◌≡◌, ◌+◌, ◌-◌, ◌*◌, ◌/◌, ◌≤◌, length, Ok, sym, refl, ap, ◌∙◌, arith, rules}
-use Rattle.sheet.specs.Sheets.{entered, memory, room, filled}
+use Rattle.std.proofs.Common.{◌≡◌, ◌/◌, length, Ok, sym, refl, ap, ◌∙◌, rules}
+use Rattle.sheet.specs.Sheets.{entered, room, filled}
 use Rattle.sheet.proofs.Fills.{filled_same}
 use Rattle.frame.specs.Orders.{numbers_of}
-use Rattle.trace.specs.Reading.Run.{going, stopped}
 use Rattle.trace.specs.Reading.Outcome.{refused}
 use Rattle.trace.specs.Answers.{shown, answered, held}
 use Rattle.frame.proofs.OrderNumbers.{order_after}

@@ -1,4 +1,4 @@
-use Rattle.std.proofs.Common.{◌≡◌, length, sym, refl, ap, ◌∙◌, arith}
+use Rattle.std.proofs.Common.{◌≡◌, sym, refl, ap, ◌∙◌, arith}
 use Rattle.sheet.specs.Sheets.{entered, memory, room, filled}
 use Rattle.sheet.proofs.Fills.{filled_same, filled_twice}
 use Rattle.frame.specs.Layout.{record_count, record_at}

@@ -1,4 +1,4 @@
-use Rattle.std.proofs.Common.{◌≡◌, ◌≤◌, length, is_ok, sym, refl, ap, ◌∙◌, subst, arith, rules}
+use Rattle.std.proofs.Common.{length, is_ok, refl, ap, arith, rules}
 use Rattle.sheet.specs.Sheets.{entered}
 use Rattle.sheet.proofs.Fills.{filled_same, grows}
 use Rattle.trace.proofs.read.take_record.Goals as goal

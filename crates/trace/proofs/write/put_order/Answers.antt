@@ -1,4 +1,4 @@
-use Rattle.std.proofs.Common.{◌≡◌, ◌+◌, ◌^◌, ◌<◌, ◌≤◌, [], ◌∷◌, ◌++◌, length, get_or, take, sym, ap, ◌∙◌, subst, arith, take_all, rules}
+use Rattle.std.proofs.Common.{◌≡◌, ◌+◌, ◌^◌, ◌<◌, ◌≤◌, [], ◌∷◌, ◌++◌, length, get_or, take, sym, ◌∙◌, subst, arith, take_all, rules}
 use Rattle.std.proofs.lemmas.List.{take_more, get_or_default}
 use Rattle.record.specs.Bytes.{big}
 use Rattle.record.proofs.Digits.{length_big, big_two}

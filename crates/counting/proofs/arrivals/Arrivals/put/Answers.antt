@@ -1,4 +1,4 @@
-use Rattle.std.proofs.Common.{◌≡◌, ◌+◌, ◌-◌, get_or, sym, ap, ◌∙◌, subst, arith, length-set, rules}
+use Rattle.std.proofs.Common.{◌+◌, ◌-◌, get_or, ap, subst, arith, length-set, rules}
 use Rattle.counting.specs.Blocks.{block, worth, from, Changed}
 use Rattle.counting.specs.Sums.{worth_le, sum_le, sum_enough, sums_set}
 use Rattle.counting.proofs.arrivals.Arrivals.put.Goals as goal

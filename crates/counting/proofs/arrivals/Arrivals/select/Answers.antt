@@ -1,4 +1,4 @@
-use Rattle.std.proofs.Common.{◌≡◌, ◌+◌, ◌-◌, ◌*◌, ◌/◌, ◌<◌, ◌≤◌, refl, ap, arith}
+use Rattle.std.proofs.Common.{◌≡◌, ◌+◌, ◌/◌, refl, ap, arith}
 use lib.Count.{count_trailing_zeros}
 use Rattle.counting.specs.Blocks.{block, upto}
 use Rattle.counting.specs.Sums.{halved, upto_none, used_here, upto_one}

@@ -1,4 +1,4 @@
-use Rattle.std.proofs.Common.{◌≡◌, ℕ, ◌+◌, ◌-◌, ◌<◌, get_or, set, sym, refl, ap, ◌∙◌, arith, length-set, rules}
+use Rattle.std.proofs.Common.{◌≡◌, ℕ, ◌+◌, ◌-◌, get_or, set, sym, refl, ap, ◌∙◌, arith, length-set, rules}
 use Rattle.giving.proofs.Places.{without_absent}
 use Rattle.counting.specs.Slots.{codes}
 use Rattle.counting.specs.Codes.{codes_absent, codes_without, within}

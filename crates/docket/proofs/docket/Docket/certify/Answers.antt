@@ -1,7 +1,6 @@
-use Rattle.std.proofs.Common.{◌≡◌, Bool, true, false, ◌||◌, ltb, length, sym, ap, ◌∙◌, inl, inr}
+use Rattle.std.proofs.Common.{◌≡◌, true, false, ◌||◌, ltb, length, inl, inr}
 use Rattle.std.proofs.lemmas.Bool.{le-ltb, or_from}
 use Rattle.calls.specs.declared.fault.DocketFault.TheVariants.{StepsMissing, BufferTooShort}
-use Rattle.calls.specs.Rules.{written}
 use Rattle.docket.specs.InStep.{three}
 use Rattle.docket.proofs.Certified.{too_short, cert_missing, cert_short, cert_ok, cert_written, cert_left}
 use Rattle.docket.proofs.docket.Docket.certify.Goals as goal

@@ -1,4 +1,4 @@
-use Rattle.std.proofs.Common.{◌≡◌, ℕ, ◌<◌, false, sym, refl, ap, ◌∙◌, arith}
+use Rattle.std.proofs.Common.{◌<◌, false, refl, ◌∙◌, arith}
 use Rattle.docket.proofs.Table.{flag_kept}
 use Rattle.docket.proofs.Lifts.{lift_none, lifted}
 use Rattle.docket.proofs.Turns.{not_both}

@@ -1,6 +1,5 @@
-use Rattle.std.proofs.Common.{◌≡◌, ℕ, ◌<◌, Bool, true, false, List, length, get_or, take, sym, refl, ap, ◌∙◌, arith}
+use Rattle.std.proofs.Common.{◌≡◌, true, List, take, refl, ap, ◌∙◌, arith}
 use Rattle.docket.specs.declared.entry.Entry.{Entry}
-use Rattle.docket.specs.Kept.{entry_of}
 use Rattle.docket.specs.Moves.{moved_by, with_flag, changed_at, changed_all}
 use Rattle.docket.proofs.Table.{flag_kept}
 use Rattle.docket.proofs.Turns.{judged_ok, not_both}

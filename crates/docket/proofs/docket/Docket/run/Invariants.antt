@@ -1,4 +1,4 @@
-use Rattle.std.proofs.Common.{◌≡◌, ℕ, ◌+◌, length, drop}
+use Rattle.std.proofs.Common.{◌≡◌, ◌+◌, length, drop}
 use Rattle.calls.specs.Rules.{run_of}
 use Rattle.docket.specs.InStep.{ops_of, steps_of, InStep}
 use Rattle.docket.proofs.docket.Docket.run.Given as goal

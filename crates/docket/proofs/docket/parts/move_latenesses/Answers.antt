@@ -1,4 +1,4 @@
-use Rattle.std.proofs.Common.{◌≡◌, ℕ, ◌<◌, length, get_or, set, sym, refl, ap, ◌∙◌, arith}
+use Rattle.std.proofs.Common.{ℕ, set, sym, refl, ap, ◌∙◌, arith}
 use Rattle.giving.proofs.Counts.{below_at}
 use Rattle.docket.specs.Kept.{entry_of}
 use Rattle.docket.specs.Moves.{moved_by, changed_all}

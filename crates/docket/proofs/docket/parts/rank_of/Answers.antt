@@ -1,4 +1,4 @@
-use Rattle.std.proofs.Common.{◌≡◌, Some, sym, refl, ap, ◌∙◌}
+use Rattle.std.proofs.Common.{Some, sym, ap, ◌∙◌}
 use Rattle.order.specs.declared.operation.Deed.{Deed}
 use Rattle.docket.specs.Moves.{rank_found}
 use Rattle.docket.proofs.Turns.{rank_take_ok, rank_take_err}

@@ -1,4 +1,4 @@
-use Rattle.std.proofs.Common.{◌≡◌, [], take, drop}
+use Rattle.std.proofs.Common.{◌≡◌, [], drop}
 use Rattle.docket.specs.InStep.{steps_of}
 use Rattle.docket.specs.Moves.{replayed}
 use Rattle.docket.proofs.docket.parts.replay.Given as goal

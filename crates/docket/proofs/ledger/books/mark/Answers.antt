@@ -1,4 +1,4 @@
-use Rattle.std.proofs.Common.{◌≡◌, ℕ, ◌<◌, false, length, get_or, take, refl, arith, length-set}
+use Rattle.std.proofs.Common.{◌≡◌, ℕ, ◌<◌, false, length, take, refl, arith, length-set}
 use Rattle.docket.proofs.Books.{room, unflagged, known_marked, once_marked, flagged_marked}
 use Rattle.docket.proofs.ledger.books.mark.Goals as goal
 use Rattle.giving.specs.Lists.{times}

@@ -1,4 +1,4 @@
-use Rattle.std.proofs.Common.{◌≡◌, ℕ, ◌+◌, ◌<◌, ◌≤◌, Bool, false, map, length, take, sym, refl, ap, ◌∙◌, arith}
+use Rattle.std.proofs.Common.{◌≡◌, ℕ, ◌+◌, ◌<◌, false, map, length, take, refl, ap, ◌∙◌, arith}
 use Rattle.docket.specs.Kept.{entry_of}
 use Rattle.std.proofs.lemmas.List.{length-set, length-map, take_all}
 use Rattle.sheet.specs.Sheets.{entered}

@@ -1,4 +1,4 @@
-use Rattle.std.proofs.Common.{◌≡◌, cond, leb, reverse, is_ok, Ok, Err, sym, ap, ◌∙◌}
+use Rattle.std.proofs.Common.{cond, leb, reverse, is_ok, Ok, Err, sym, ap, ◌∙◌}
 use Rattle.giving.proofs.Counts.{times_reverse}
 use Rattle.giving.proofs.Places.{stands_same}
 use Rattle.holder.specs.declared.fault.HolderFault.TheVariants.{CodeTooLarge, AlreadyHeld, AddsUsedUp}

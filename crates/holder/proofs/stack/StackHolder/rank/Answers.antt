@@ -1,6 +1,5 @@
-use Rattle.std.proofs.Common.{◌≡◌, ◌≤◌, reverse, length, arith, rules}
+use Rattle.std.proofs.Common.{reverse, arith, rules}
 use Rattle.std.proofs.lemmas.List.{length-reverse}
-use Rattle.giving.specs.Lists.{place}
 use Rattle.giving.proofs.Counts.{times_reverse}
 use Rattle.giving.proofs.Places.{place_reverse, place_absent, times_absent}
 use Rattle.holder.specs.Rows.{row_list}
