@@ -4,6 +4,7 @@
 use anyhow::anyhow;
 use report::report::report_trace;
 use std::io::{Read, Write};
+use std::process::ExitCode;
 
 // The longest trace has 8 + 26 * 1,024 bytes; one more shows that an input is longer.
 const LIMIT: u64 = 26_633;
@@ -27,10 +28,14 @@ fn examine(rt: &HostRuntime) -> anyhow::Result<bool> {
     Ok(report.granted)
 }
 
-fn main(rt: HostRuntime) -> anyhow::Result<()> {
+// The exit status says whether a certificate is granted; a refused trace has its line on standard output, and needs no more.
+fn main(rt: HostRuntime) -> ExitCode {
     match examine(&rt) {
-        Ok(true) => Ok(()),
-        Ok(false) => Err(anyhow!("no certificate is granted")),
-        Err(fault) => Err(fault),
+        Ok(true) => ExitCode::SUCCESS,
+        Ok(false) => ExitCode::FAILURE,
+        Err(fault) => {
+            let _ = eprintln!(rt; "Error: {fault}");
+            ExitCode::FAILURE
+        }
     }
 }

@@ -13,7 +13,7 @@ use Rattle.sheet.specs.declared.operation.Operation.{Operation}
 use Rattle.record.specs.declared.fault.RecordFault.{RecordFault}
 use Rattle.record.specs.declared.fault.RecordFault.TheVariants.{NoSuchMethod, SpareBit, ItemOnFoundEmpty}
 use Rattle.record.specs.Bytes.{big, Bytes}
-use Rattle.record.specs.Records.{with_item, with_times, method_answer, operation_of, decode_record, word_of, encode_record, FitMethod, Fit}
+use Rattle.record.specs.Records.{with_item, with_times, method_answer, operation_of, decode_record, word_of_method, encode_record, FitMethod, Fit}
 use Rattle.record.proofs.Digits.{length_big, big_number, bytes_take, bytes_drop, field, with_four}
 
 pub length_record : {I : Type 0} (t : Ghosts I) (op : Operation I) → length (encode_record t op) ≡ 24
@@ -43,13 +43,13 @@ decoded t bs word th s e m p q r v h k d =
     ∙ with_four (operation_of t) p q r v
 
 module _ {I : Type 0} (t : Ghosts I) (law : Lawful t) where
-  word_bound : (m : Method I) → FitMethod t m → word_of t m < 2 ^ 48
+  word_bound : (m : Method I) → FitMethod t m → word_of_method t m < 2 ^ 48
   word_bound (Add x) f = omega (arith, law.small x f)
   word_bound (Take x) f = omega (arith, law.small x f)
   word_bound FoundEmpty f = omega arith
 
   word_there : (m : Method I) (th s e : ℕ) → FitMethod t m →
-      operation_of t (word_of t m) th s e ≡ Ok (record { method = m; thread = th; start = s; end = e })
+      operation_of t (word_of_method t m) th s e ≡ Ok (record { method = m; thread = th; start = s; end = e })
   word_there (Add x) th s e f =
       let l = law.small x f in
       let m : t.number x / 2 ^ 46 ≡ 0 = omega arith in
@@ -69,7 +69,7 @@ module _ {I : Type 0} (t : Ghosts I) (law : Lawful t) where
   -- an operation's bytes say that operation
   pub record_there : (op : Operation I) → Fit t op → decode_record t (encode_record t op) ≡ Ok op
   record_there op f =
-      let a = big 6 (word_of t op.method) in
+      let a = big 6 (word_of_method t op.method) in
       let b = big 2 op.thread in
       let c = big 8 op.start in
       let d = big 8 op.end in
@@ -77,8 +77,8 @@ module _ {I : Type 0} (t : Ghosts I) (law : Lawful t) where
       let tb = f.thread in
       let sb = f.start in
       let eb = f.end in
-      let i = field 0 6 (word_of t op.method) (a ++ b ++ c ++ d) [] (b ++ (c ++ d)) (simp append_assoc) refl (omega arith) in
-      let j = field 6 2 op.thread (a ++ b ++ c ++ d) a (c ++ d) (simp append_assoc) (length_big 6 (word_of t op.method)) (omega arith) in
+      let i = field 0 6 (word_of_method t op.method) (a ++ b ++ c ++ d) [] (b ++ (c ++ d)) (simp append_assoc) refl (omega arith) in
+      let j = field 6 2 op.thread (a ++ b ++ c ++ d) a (c ++ d) (simp append_assoc) (length_big 6 (word_of_method t op.method)) (omega arith) in
       let s = field 8 8 op.start (a ++ b ++ c ++ d) (a ++ b) d (simp append_assoc) (simp (length-append, length_big)) (omega arith) in
       let e = field 16 8 op.end (a ++ b ++ c ++ d) (a ++ b ++ c) [] (simp (append_assoc, append-nil)) (simp (length-append, length_big)) (omega arith) in
       with_four (operation_of t) i j s e ∙ word_there op.method op.thread op.start op.end f.method
@@ -91,7 +91,7 @@ module _ {I : Type 0} (t : Ghosts I) (law : Lawful t) where
 
   -- the method, by its number: what it says is its word
   Says : ℕ → ℕ → Method I → Type 0
-  Says number field m = (word_of t m ≡ number * 2 ^ 46 + field) × FitMethod t m
+  Says number field m = (word_of_method t m ≡ number * 2 ^ 46 + field) × FitMethod t m
 
   empty_back : (n : ℕ) (m : Method I) → cond (eqb n 0) (Ok FoundEmpty) (Err ItemOnFoundEmpty) ≡ Ok m → Says 2 n m
   unfolding Says
@@ -121,7 +121,7 @@ module _ {I : Type 0} (t : Ghosts I) (law : Lawful t) where
   times_back th s e (Err f) op p = let z : ◌≡◌ {A = ℕ} 0 1 = cc in absurd (omega arith)
 
   word_back : (w th s e : ℕ) (op : Operation I) → operation_of t w th s e ≡ Ok op →
-      (word_of t op.method ≡ w) × FitMethod t op.method × (op.thread ≡ th) × (op.start ≡ s) × (op.end ≡ e)
+      (word_of_method t op.method ≡ w) × FitMethod t op.method × (op.thread ≡ th) × (op.start ≡ s) × (op.end ≡ e)
   unfolding Says
   word_back w th s e op p =
       let h : w / 2 ^ 46 ≤ 2 = grind (arith, nat_tests) in
@@ -130,7 +130,7 @@ module _ {I : Type 0} (t : Ghosts I) (law : Lawful t) where
       (passed (ltb 0 (w / 2 ^ 40 % 64)) SpareBit _ op (passed (ltb 2 (w / 2 ^ 46)) NoSuchMethod _ op p).1).1 in
       let u = times_back th s e (method_answer t (w / 2 ^ 46) (w % 2 ^ 40)) op q in
       let b = method_back (w / 2 ^ 46) (w % 2 ^ 40) op.method h u.0 in
-      let v : word_of t op.method ≡ w = omega (arith, b.0) in
+      let v : word_of_method t op.method ≡ w = omega (arith, b.0) in
       (v, b.1, u.1, u.2, u.3)
 
   -- the operation that 24 bytes say is written as those bytes
@@ -142,7 +142,7 @@ module _ {I : Type 0} (t : Ghosts I) (law : Lawful t) where
       let s = big_number 8 (take 8 (drop 8 bs)) (bytes_take 8 (drop 8 bs) (bytes_drop 8 bs b)) (simp (length-take, length-drop) (omega arith)) in
       let d = big_number 8 (take 8 (drop 16 bs)) (bytes_take 8 (drop 16 bs) (bytes_drop 16 bs b)) (simp (length-take, length-drop) (omega arith)) in
       let all : List ℕ → List ℕ → List ℕ → List ℕ → List ℕ = λ a b c d. a ++ b ++ c ++ d in
-      let whole : all (big 6 (word_of t op.method)) (big 2 op.thread) (big 8 op.start) (big 8 op.end) ≡ bs =
+      let whole : all (big 6 (word_of_method t op.method)) (big 2 op.thread) (big 8 op.start) (big 8 op.end) ≡ bs =
       with_four all (ap (big 6) r.0 ∙ w.0) (ap (big 2) r.2 ∙ j.0) (ap (big 8) r.3 ∙ s.0)
       (ap (big 8) r.4 ∙ d.0 ∙ take_all 8 (drop 16 bs) (simp length-drop (omega arith)))
       ∙ parts bs in

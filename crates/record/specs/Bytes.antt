@@ -1,4 +1,4 @@
--- Numbers as bytes, the highest first. What bytes say is `number 256`.
+-- Numbers as bytes, the highest first. What bytes say is `number_from_digits 256`.
 use Rattle.std.specs.Prelude.{ℕ, zero, suc, ◌/◌, ◌%◌, ◌<◌, List, [], ◌∷◌, ◌++◌, slice_index}
 
 -- the number n in w bytes

@@ -39,14 +39,14 @@ module _ {I : Type 0} (t : Ghosts I) where
       operation_of (number_from_digits 256 (take 6 bs)) (number_from_digits 256 (take 2 (drop 6 bs))) (number_from_digits 256 (take 8 (drop 8 bs))) (number_from_digits 256 (take 8 (drop 16 bs)))
 
   -- the first 48 bits of a method
-  abbrev pub word_of : Method I → ℕ
-  word_of (Add x) = t.number x
-  word_of (Take x) = 2 ^ 46 + t.number x
-  word_of FoundEmpty = 2 * 2 ^ 46
+  abbrev pub word_of_method : Method I → ℕ
+  word_of_method (Add x) = t.number x
+  word_of_method (Take x) = 2 ^ 46 + t.number x
+  word_of_method FoundEmpty = 2 * 2 ^ 46
 
   -- the 24 bytes that say an operation
   abbrev pub encode_record : Operation I → List ℕ
-  encode_record op = big 6 (word_of op.method) ++ big 2 op.thread ++ big 8 op.start ++ big 8 op.end
+  encode_record op = big 6 (word_of_method op.method) ++ big 2 op.thread ++ big 8 op.start ++ big 8 op.end
 
   abbrev pub FitMethod : Method I → Type 0
   FitMethod (Add x) = t.fit x

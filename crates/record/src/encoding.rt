@@ -1,6 +1,6 @@
 ghost use Rattle.std.specs.Prelude.{◌≡◌, ◌++◌, Ok};
 ghost use Rattle.record.specs.Bytes.{big};
-ghost use Rattle.record.specs.Records.{decode_record, encode_record, word_of, FitMethod, Fit};
+ghost use Rattle.record.specs.Records.{decode_record, encode_record, word_of_method, FitMethod, Fit};
 
 use item::item::Item;
 use sheet::operation::{Method, Operation};
@@ -10,7 +10,7 @@ pub type RecordBytes = [u8; 24];
 
 // The first 48 bits of a record: the method, six zero bits and the item field.
 fn word_of<I: Item>(method: &Method<I>) -> u64
-    ensures word { result ≡ word_of I.Item method.now }
+    ensures word { result ≡ word_of_method I.Item method.now }
     ensures fit { FitMethod I.Item method.now }
 {
     match *method {

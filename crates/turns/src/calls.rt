@@ -33,20 +33,20 @@ pub struct HolderTurn {
 }
 
 // The answer of a call that answers nothing but a refusal.
-fn done(res: Result<(), HolderFault>) -> HolderAnswer
-    ensures { result ≡ done_answer res }
+fn done(given: Result<(), HolderFault>) -> HolderAnswer
+    ensures { result ≡ done_answer given }
 {
-    match res {
+    match given {
         Ok(_) => HolderAnswer::Done,
         Err(fault) => HolderAnswer::Refused(fault),
     }
 }
 
 // The answer of a call that answers a number.
-fn number(res: Result<u16, HolderFault>) -> HolderAnswer
-    ensures { result ≡ number_answer res }
+fn number(given: Result<u16, HolderFault>) -> HolderAnswer
+    ensures { result ≡ number_answer given }
 {
-    match res {
+    match given {
         Ok(value) => HolderAnswer::Number(value),
         Err(fault) => HolderAnswer::Refused(fault),
     }
