@@ -14,5 +14,5 @@ refusal_in (unread e) = Some (frame_refusal e)
 refusal_in (refused os i e) = Some (entry_refusal i e)
 refusal_in (accepted c) = None
 
-abbrev pub add_matching : ℕ → Operation Ticket
-add_matching n = record { method = Add (record { number = n }); thread = 0; start = 0; end = 0 }
+abbrev pub add_of_ticket : ℕ → Operation Ticket
+add_of_ticket n = record { method = Add (record { number = n }); thread = 0; start = 0; end = 0 }

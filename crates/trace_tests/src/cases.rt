@@ -2,7 +2,7 @@ ghost use Rattle.std.specs.Prelude.{◌≡◌, is_ok};
 ghost use Rattle.std.specs.Option.{option_map};
 ghost use Rattle.sheet.specs.Sheets.{room};
 ghost use Rattle.trace.specs.Reading.{reading};
-ghost use Rattle.trace_tests.specs.Cases.{refusal_in, add_matching};
+ghost use Rattle.trace_tests.specs.Cases.{refusal_in, add_of_ticket};
 
 use item::item::Item;
 use item::ticket::Ticket;
@@ -41,7 +41,7 @@ pub fn refusal_of<I: Item>(bytes: &[u8], sheet: &mut Sheet<I>) -> Option<Refusal
 
 // An add of a ticket by thread 0, at the instant 0.
 pub fn add(number: u32) -> Operation<Ticket>
-    ensures { result ≡ add_matching number }
+    ensures { result ≡ add_of_ticket number }
 {
     Operation {
         method: Method::Add(Ticket { number }),
