@@ -4,6 +4,8 @@ use native.Mathlib.Nat.{pow-le-pow_right}
 use Rattle.std.proofs.lemmas.List.{take_more}
 use Rattle.std.specs.Int.Digits.{number_from_digits, number_from_digits_after}
 use Rattle.std.specs.List.{fold}
+use Rattle.std.specs.Int.{byte_at, bytes_high_first}
+use Rattle.std.proofs.Math.Nat.{mul_comm, div-div-eq-div-mul}
 use Rattle.std.proofs.lemmas.Int.Digits.{number_push}
 use Rattle.record.specs.Bytes.{big, Bytes}
 
@@ -68,39 +70,24 @@ narrow r w xs b l e h =
     let m : 256 ^ w ≤ 256 ^ 8 = pow-le-pow_right z h in
     (omega (arith, p.1), omega (arith, p.1))
 
--- numbers of two, six and eight bytes, byte by byte
+-- a number of two bytes, byte by byte
 pub big_two : (n : ℕ) → big 2 n ≡ n / 256 % 256 ∷ n % 256 ∷ []
 unfolding big
 big_two n = refl
 
-module _ (n : ℕ) where
-  by_2 : n / 256 / 256 ≡ n / 65536
-  by_2 = omega arith
+byte_above : (i n : ℕ) → byte_at (suc i) n ≡ byte_at i (n / 256)
+byte_above zero n = refl
+byte_above (suc i) n = rw (pow-suc 256 (suc i), mul_comm (256 ^ suc i) 256) (ap (λ z. z % 256) (sym (div-div-eq-div-mul n 256 (256 ^ suc i))))
 
-  by_3 : n / 65536 / 256 ≡ n / 16777216
-  by_3 = omega arith
+high_push : (w n : ℕ) → bytes_high_first (suc w) n ≡ bytes_high_first w (n / 256) ++ n % 256 ∷ []
+high_push zero n = refl
+high_push (suc w) n = rw (byte_above w n, high_push w n) refl
 
-  by_4 : n / 16777216 / 256 ≡ n / 4294967296
-  by_4 = omega arith
-
-  by_5 : n / 4294967296 / 256 ≡ n / 1099511627776
-  by_5 = omega arith
-
-  by_6 : n / 1099511627776 / 256 ≡ n / 281474976710656
-  by_6 = omega arith
-
-  by_7 : n / 281474976710656 / 256 ≡ n / 72057594037927936
-  by_7 = omega arith
-
-pub big_six : (n : ℕ) →
-    big 6 n ≡ n / 1099511627776 % 256 ∷ n / 4294967296 % 256 ∷ n / 16777216 % 256 ∷ n / 65536 % 256 ∷ n / 256 % 256 ∷ n % 256 ∷ []
+-- the bytes as the library writes them
+pub big_is : (w n : ℕ) → big w n ≡ bytes_high_first w n
 unfolding big
-big_six n = simp (by_2 n, by_3 n, by_4 n, by_5 n)
-
-pub big_eight : (n : ℕ) →
-    big 8 n ≡ n / 72057594037927936 % 256 ∷ n / 281474976710656 % 256 ∷ n / 1099511627776 % 256 ∷ n / 4294967296 % 256 ∷ n / 16777216 % 256 ∷ n / 65536 % 256 ∷ n / 256 % 256 ∷ n % 256 ∷ []
-unfolding big
-big_eight n = simp (by_2 n, by_3 n, by_4 n, by_5 n, by_6 n, by_7 n)
+big_is zero n = refl
+big_is (suc w) n = ap (λ z. z ++ n % 256 ∷ []) (big_is w (n / 256)) ∙ sym (high_push w n)
 
 pub with_four : {X : Type 0} {Y : Type 0} (f : X → X → X → X → Y) {a a' b b' c c' d d' : X} → a ≡ a' → b ≡ b' → c ≡ c' → d ≡ d' →
     f a b c d ≡ f a' b' c' d'
