@@ -1,5 +1,5 @@
 -- A header's bytes and its fields determine one another.
-use Rattle.std.proofs.Common.{◌≡◌, ℕ, ◌+◌, ◌*◌, ◌/◌, ◌%◌, ◌^◌, ◌<◌, ◌≤◌, false, cond, not, eqb, ltb, List, [], ◌∷◌, ◌++◌, length, take, drop, Ok, Err, Result, sym, refl, ap, ◌∙◌, append_assoc, arith, length-append, length-drop, length-take}
+use Rattle.std.proofs.Common.{◌≡◌, ℕ, ◌+◌, ◌*◌, ◌/◌, ◌%◌, ◌^◌, ◌<◌, ◌≤◌, false, cond, not, eqb, ltb, List, [], ◌++◌, length, take, drop, Ok, Err, Result, sym, refl, ap, ◌∙◌, append_assoc, arith, length-append, length-drop, length-take, take-add}
 use Rattle.std.proofs.lemmas.Bool.Decides.{nat_tests}
 use Rattle.std.specs.Int.Digits.{number_from_digits}
 use Rattle.refusal.proofs.Checks.{passed, pass}
@@ -92,16 +92,8 @@ pub record Framed (code : ℕ) (bs : List ℕ) (h : Header) : Type 0 where
   pub k : h.k < 2 ^ 16
   pub long : length bs ≡ 8 + 26 * h.count
 
-eight : (bs : List ℕ) → 8 ≤ length bs → take 2 bs ++ take 2 (drop 2 bs) ++ take 2 (drop 4 bs) ++ take 2 (drop 6 bs) ≡ take 8 bs
-eight [] h = refl
-eight (a ∷ []) h = absurd (omega arith)
-eight (a ∷ b ∷ []) h = absurd (omega arith)
-eight (a ∷ b ∷ c ∷ []) h = absurd (omega arith)
-eight (a ∷ b ∷ c ∷ d ∷ []) h = absurd (omega arith)
-eight (a ∷ b ∷ c ∷ d ∷ e ∷ []) h = absurd (omega arith)
-eight (a ∷ b ∷ c ∷ d ∷ e ∷ f ∷ []) h = absurd (omega arith)
-eight (a ∷ b ∷ c ∷ d ∷ e ∷ f ∷ g ∷ []) h = absurd (omega arith)
-eight (a ∷ b ∷ c ∷ d ∷ e ∷ f ∷ g ∷ i ∷ bs) h = refl
+eight : (bs : List ℕ) → take 2 bs ++ take 2 (drop 2 bs) ++ take 2 (drop 4 bs) ++ take 2 (drop 6 bs) ≡ take 8 bs
+eight bs = cc (take-add 2 2 bs, take-add 4 2 bs, take-add 6 2 bs)
 
 pub frame_back : (code : ℕ) (bs : List ℕ) (h : Header) → Bytes bs → frame_of code bs ≡ Ok h → Framed code bs h
 frame_back code bs h b e =
@@ -115,7 +107,7 @@ frame_back code bs h b e =
     let all : List ℕ → List ℕ → List ℕ → List ℕ → List ℕ = λ a b c d. a ++ b ++ c ++ d in
     let whole : all (big 2 (4096 + kind_number h.kind * 256 + code * 16)) (big 2 h.count) (big 2 h.k) (big 2 0) ≡ take 8 bs =
     with_four all (ap (big 2) (sym r.word_is) ∙ w.0) (ap (big 2) (sym r.count_is) ∙ n.0) (ap (big 2) (sym r.k_is) ∙ k.0) (ap (big 2) (sym r.no_spare) ∙ z.0)
-    ∙ eight bs l in
+    ∙ eight bs in
     record {
       bytes = sym whole;
       few = omega (arith, r.few, r.count_is);

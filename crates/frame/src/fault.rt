@@ -4,7 +4,7 @@ ghost use Rattle.frame.specs.Faults.{frame_refusal};
 use refusal::{Layer, Refusal};
 
 // Why a header is not that of a trace.
-#[derive(Clone, Copy)]
+#[derive(Clone, Copy, PartialEq, Eq, Debug)]
 pub enum FrameFault {
     // under 8 bytes
     Short,
