@@ -4,9 +4,12 @@ use Rattle.std.proofs.lemmas.List.{drop-drop}
 use Rattle.std.specs.Simd.{first_chunks}
 use Rattle.frame.specs.Layout.{record_count, record_at, records_in}
 
-pub length_chunks : (w n : ℕ) (xs : List ℕ) → length (first_chunks w n xs) ≡ n
+length_chunks : (w n : ℕ) (xs : List ℕ) → length (first_chunks w n xs) ≡ n
 length_chunks w zero xs = refl
 length_chunks w (suc n) xs = let i = length_chunks w n (drop w xs) in omega arith
+
+pub length_records : (bs : List ℕ) → length (records_in bs) ≡ record_count bs
+length_records bs = length_chunks 24 (record_count bs) (drop 8 bs)
 
 take_chunks : (w n m : ℕ) (xs : List ℕ) → n ≤ m → take n (first_chunks w m xs) ≡ first_chunks w n xs
 take_chunks w zero m xs h = refl
