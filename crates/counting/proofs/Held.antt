@@ -1,26 +1,59 @@
 -- What the position of a code says of a queue by counting. Assumes nothing.
-use Rattle.std.proofs.Common.{◌≡◌, ℕ, ◌+◌, ◌-◌, ◌<◌, ◌≤◌, length, get_or, ap, ◌∙◌, arith}
+use Rattle.std.proofs.Common.{◌≡◌, ℕ, ◌<◌, ◌≤◌, true, false, Option, Some, None, length, get_or, sym, refl, ap, ◌∙◌, arith, ⊎_elim, if◌then◌else◌, nat_lt}
+use Rattle.std.proofs.lemmas.Bool.{cases_lt, lt-ltb, le-ltb}
+use Rattle.std.specs.Option.{is_some}
 use Rattle.giving.specs.Lists.{place}
 use Rattle.giving.proofs.Places.{place_absent}
 use Rattle.counting.specs.declared.queue.CountingQueue.{CountingQueue}
+use Rattle.counting.specs.declared.slot.Slot.{Slot}
 use Rattle.counting.specs.Blocks.{upto}
-use Rattle.counting.specs.Slots.{codes}
-use Rattle.counting.specs.Codes.{codes_absent, code_place, code_at, within}
+use Rattle.counting.specs.Slots.{codes, number_of}
+use Rattle.counting.specs.Codes.{codes_absent, code_place, code_at}
 
 -- code c stands in slot i, at the place that counts the used slots before it
 pub record HeldAt (q : CountingQueue) (c i : ℕ) : Type 0 where
-  pub slot : get_or q.arrivals.slots i 0 ≡ c + 1
-  pub inside : i < 1024
+  pub slot : get_or q.arrivals.slots i None ≡ Some c
   pub here : place c (codes q.arrivals.slots) ≡ upto q.arrivals.slots i
   pub held : upto q.arrivals.slots i < length (codes q.arrivals.slots)
 
-pub held_at : (q : CountingQueue) (c p : ℕ) → p ≡ get_or q.positions c 0 → 0 < p → HeldAt q c (p - 1)
-held_at q c p e some =
-    let s = q.arrivals.slots in
-    let b : get_or s (p - 1) 0 ≡ c + 1 = ap (λ x. get_or s (x - 1) 0) e ∙ q.back c (omega arith) in
-    let i = within s (p - 1) (omega arith) in
-    let a = code_at s (p - 1) (omega arith) in
-    record { slot = b; inside = omega arith; here = code_place s q.positions c (p - 1) q.placed b; held = a.0 }
+-- a slot that is there
+slot_there : (slot : Option Slot) → is_some slot ≡ true → (there : Slot) × (slot ≡ Some there)
+slot_there None h = absurd cc
+slot_there (Some there) h = (there, refl)
 
-pub not_held : (q : CountingQueue) (c : ℕ) → get_or q.positions c 0 ≡ 0 → length (codes q.arrivals.slots) ≤ place c (codes q.arrivals.slots)
-not_held q c z = place_absent c (codes q.arrivals.slots) (codes_absent q.arrivals.slots q.positions c q.placed z)
+pub held_at : (q : CountingQueue) (c : ℕ) (slot : Slot) → get_or q.positions c None ≡ Some slot → HeldAt q c slot.number
+held_at q c slot e =
+    let s = q.arrivals.slots in
+    let b = q.back c slot.number (ap number_of e) in
+    let a = code_at s slot.number c b in
+    record { slot = b; here = code_place s q.positions c slot.number q.placed b; held = a.0 }
+
+-- a code that has a position is held, and one that has none is not
+pub held : (q : CountingQueue) (c : ℕ) (slot : Option Slot) → slot ≡ get_or q.positions c None → is_some slot ≡ true → place c (codes q.arrivals.slots) < length (codes q.arrivals.slots)
+held q c slot e h = let t = slot_there slot h in let at = held_at q c t.0 (sym e ∙ t.1) in omega arith
+
+none_there : (slot : Option Slot) → is_some slot ≡ false → slot ≡ None
+none_there None h = refl
+none_there (Some there) h = absurd cc
+
+pub position_free : (q : CountingQueue) (c : ℕ) (slot : Option Slot) → slot ≡ get_or q.positions c None → is_some slot ≡ false → get_or q.positions c None ≡ None
+position_free q c slot e h = sym e ∙ none_there slot h
+
+pub not_held : (q : CountingQueue) (c : ℕ) → get_or q.positions c None ≡ None → length (codes q.arrivals.slots) ≤ place c (codes q.arrivals.slots)
+not_held q c z = place_absent c (codes q.arrivals.slots) (codes_absent q.arrivals.slots q.positions c q.placed (ap number_of z))
+
+-- ---- the slot of a number
+pub no_slot : (n : ℕ) (slot : Option Slot) → number_of slot ≡ (if nat_lt n 1024 then Some n else None) → slot ≡ None → 1024 ≤ n
+no_slot n slot e z =
+    ⊎_elim
+    (λ (h : n < 1024). let t = lt-ltb n 1024 h in let y = ap number_of z in let f = rw t at e in absurd cc)
+    (λ (h : 1024 ≤ n). h)
+    (cases_lt n 1024)
+
+pub slot_number : (n : ℕ) (slot : Option Slot) (there : Slot) → number_of slot ≡ (if nat_lt n 1024 then Some n else None) → slot ≡ Some there → there.number ≡ n
+slot_number n slot there e z =
+    let y = ap number_of z in
+    ⊎_elim
+    (λ (h : n < 1024). let t = lt-ltb n 1024 h in let f = rw t at e in cc)
+    (λ (h : 1024 ≤ n). let t = le-ltb n 1024 h in let f = rw t at e in absurd cc)
+    (cases_lt n 1024)

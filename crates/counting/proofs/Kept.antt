@@ -1,93 +1,98 @@
 -- The slots and the positions after an add and after a take. Assumes nothing.
-use Rattle.std.proofs.Common.{◌≡◌, ℕ, zero, suc, ◌+◌, ◌-◌, ◌<◌, ◌≢◌, List, length, get_or, set, replicate, sym, refl, ap, ◌∙◌, subst, ⊎_elim, arith}
+use Rattle.std.proofs.Common.{◌≡◌, ℕ, zero, suc, ◌+◌, ◌<◌, ◌≢◌, ◌⊎◌, Option, Some, None, List, length, get_or, set, replicate, sym, refl, ap, ◌∙◌, subst, inl, inr, ⊎_elim, arith}
 use Rattle.std.proofs.lemmas.List.{get_or-set_same, get_or-set_other}
 use Rattle.std.proofs.lemmas.Bool.{cases_eq}
-use Rattle.counting.specs.Slots.{FreeFrom, Placed, Back}
+use Rattle.counting.specs.declared.slot.Slot.{Slot}
+use Rattle.counting.specs.Slots.{number_of, slot_of, FreeFrom, Placed, Back}
 
-module _ (s ps : List ℕ) (n c : ℕ) (in' : n < length s) (cin : c < length ps) (cs : c < 1024) (l : FreeFrom n s) (t : Placed s ps) (b : Back s ps) (z : get_or ps c 0 ≡ 0) where
-  free_add : FreeFrom (n + 1) (set s n (c + 1))
-  free_add k h = let ne : k ≢ n = omega arith in rw get_or-set_other (l k (omega arith))
+-- what a list has at place k after x was written at place i
+abbrev Written : {A : Type 0} → List (Option A) → ℕ → Option A → ℕ → Type 0
+Written xs i x k = ((k ≡ i) × (get_or (set xs i x) k None ≡ x)) ⊎ ((k ≢ i) × (get_or (set xs i x) k None ≡ get_or xs k None))
 
-  placed_add : Placed (set s n (c + 1)) (set ps c (n + 1))
-  placed_add k u =
+written : {A : Type 0} (xs : List (Option A)) (i : ℕ) (x : Option A) (k : ℕ) → i < length xs → Written xs i x k
+written {A} xs i x k h =
+    ⊎_elim
+    (λ (e : k ≡ i). inl (e, ap (λ (m : ℕ). get_or {A = Option A} (set xs i x) m None) e ∙ get_or-set_same xs i x None h))
+    (λ (ne : k ≢ i). inr (ne, get_or-set_other xs i k x None ne))
+    (cases_eq k i)
+
+module _ (s : List (Option ℕ)) (ps : List (Option Slot)) (slot : Slot) (c : ℕ) (in' : slot.number < length s) (cin : c < length ps) (cs : c < 1024) (l : FreeFrom slot.number s) (t : Placed s ps) (b : Back s ps) (z : get_or ps c None ≡ None) where
+  free_add : FreeFrom (slot.number + 1) (set s slot.number (Some c))
+  free_add k h = let ne : k ≢ slot.number = omega arith in rw get_or-set_other (l k (omega arith))
+
+  placed_add : Placed (set s slot.number (Some c)) (set ps c (Some slot))
+  placed_add k d u =
       ⊎_elim
-      (λ (e : k ≡ n).
-      let x : get_or (set s n (c + 1)) k 0 ≡ c + 1 = ap (λ (m : ℕ). get_or (set s n (c + 1)) m 0) e ∙ get_or-set_same s n (c + 1) 0 in' in
-      let i : get_or (set s n (c + 1)) k 0 - 1 ≡ c = omega arith in
-      let y = ap (λ (m : ℕ). get_or (set ps c (n + 1)) m 0) i ∙ get_or-set_same ps c (n + 1) 0 cin in
-      (omega arith, omega arith))
-      (λ (ne : k ≢ n).
-      let x = get_or-set_other s n k (c + 1) 0 ne in
-      let f = t k (omega arith) in
-      let nc : get_or s k 0 - 1 ≢ c = λ e. let g = ap (λ (m : ℕ). get_or ps m 0) e in omega arith in
-      let y = ap (λ (m : ℕ). get_or (set ps c (n + 1)) (m - 1) 0) x ∙ get_or-set_other ps c (get_or s k 0 - 1) (n + 1) 0 nc in
-      (omega arith, omega arith))
-      (cases_eq k n)
+      (λ (e : (k ≡ slot.number) × (get_or (set s slot.number (Some c)) k None ≡ Some c)).
+      let same : d ≡ c = cc in
+      (omega arith, ap (slot_of (set ps c (Some slot))) same ∙ ap number_of (get_or-set_same ps c (Some slot) None cin) ∙ ap Some (sym e.0)))
+      (λ (e : (k ≢ slot.number) × (get_or (set s slot.number (Some c)) k None ≡ get_or s k None)).
+      let f = t k d (sym e.1 ∙ u) in
+      let free = ap number_of z in
+      let ne : d ≢ c = λ r. let g = ap (slot_of ps) r in cc in
+      (f.0, ap number_of (get_or-set_other ps c d (Some slot) None ne) ∙ f.1))
+      (written s slot.number (Some c) k in')
 
-  back_add : Back (set s n (c + 1)) (set ps c (n + 1))
-  back_add d u =
+  back_add : Back (set s slot.number (Some c)) (set ps c (Some slot))
+  back_add d k u =
       ⊎_elim
-      (λ (e : d ≡ c).
-      let x : get_or (set ps c (n + 1)) d 0 ≡ n + 1 = ap (λ (m : ℕ). get_or (set ps c (n + 1)) m 0) e ∙ get_or-set_same ps c (n + 1) 0 cin in
-      let i : get_or (set ps c (n + 1)) d 0 - 1 ≡ n = omega arith in
-      let y = ap (λ (m : ℕ). get_or (set s n (c + 1)) m 0) i ∙ get_or-set_same s n (c + 1) 0 in' in
-      omega arith)
-      (λ (ne : d ≢ c).
-      let x = get_or-set_other ps c d (n + 1) 0 ne in
-      let f = b d (omega arith) in
-      let zn = l n (omega arith) in
-      let nc : get_or ps d 0 - 1 ≢ n = λ e. let g = ap (λ (m : ℕ). get_or s m 0) e in omega arith in
-      ap (λ (m : ℕ). get_or (set s n (c + 1)) (m - 1) 0) x ∙ get_or-set_other s n (get_or ps d 0 - 1) (c + 1) 0 nc ∙ f)
-      (cases_eq d c)
+      (λ (e : (d ≡ c) × (get_or (set ps c (Some slot)) d None ≡ Some slot)).
+      let there = ap number_of e.1 in
+      let same : k ≡ slot.number = cc in
+      ap (λ (m : ℕ). get_or (set s slot.number (Some c)) m None) same ∙ get_or-set_same s slot.number (Some c) None in' ∙ ap Some (sym e.0))
+      (λ (e : (d ≢ c) × (get_or (set ps c (Some slot)) d None ≡ get_or ps d None)).
+      let f = b d k (sym (ap number_of e.1) ∙ u) in
+      let free = l slot.number (omega arith) in
+      let ne : k ≢ slot.number = λ r. let g = ap (λ (m : ℕ). get_or s m None) r in cc in
+      get_or-set_other s slot.number k (Some c) None ne ∙ f)
+      (written ps c (Some slot) d cin)
 
-  pub kept_add : (new : List ℕ) → new ≡ set s n (c + 1) → FreeFrom (n + 1) new × Placed new (set ps c (n + 1)) × Back new (set ps c (n + 1))
-  kept_add new e = subst (λ l. FreeFrom (n + 1) l × Placed l (set ps c (n + 1)) × Back l (set ps c (n + 1))) (sym e) (free_add, placed_add, back_add)
+  pub kept_add : (new : List (Option ℕ)) → new ≡ set s slot.number (Some c) → FreeFrom (slot.number + 1) new × Placed new (set ps c (Some slot)) × Back new (set ps c (Some slot))
+  kept_add new e = subst (λ l. FreeFrom (slot.number + 1) l × Placed l (set ps c (Some slot)) × Back l (set ps c (Some slot))) (sym e) (free_add, placed_add, back_add)
 
-module _ (s ps : List ℕ) (n c i : ℕ) (in' : i < length s) (cin : c < length ps) (l : FreeFrom n s) (t : Placed s ps) (b : Back s ps) (p : get_or ps c 0 ≡ i + 1) (q : get_or s i 0 ≡ c + 1) where
-  free_take : FreeFrom n (set s i 0)
+module _ (s : List (Option ℕ)) (ps : List (Option Slot)) (n : ℕ) (slot : Slot) (c : ℕ) (in' : slot.number < length s) (cin : c < length ps) (l : FreeFrom n s) (t : Placed s ps) (b : Back s ps) (p : get_or ps c None ≡ Some slot) (q : get_or s slot.number None ≡ Some c) where
+  free_take : FreeFrom n (set s slot.number None)
   free_take k h =
       ⊎_elim
-      (λ (e : k ≡ i). ap (λ (m : ℕ). get_or (set s i 0) m 0) e ∙ get_or-set_same s i 0 0 in')
-      (λ (ne : k ≢ i). get_or-set_other s i k 0 0 ne ∙ l k h)
-      (cases_eq k i)
+      (λ (e : (k ≡ slot.number) × (get_or (set s slot.number None) k None ≡ None)). e.1)
+      (λ (e : (k ≢ slot.number) × (get_or (set s slot.number None) k None ≡ get_or s k None)). e.1 ∙ l k h)
+      (written s slot.number None k in')
 
-  placed_take : Placed (set s i 0) (set ps c 0)
-  placed_take k u =
+  placed_take : Placed (set s slot.number None) (set ps c None)
+  placed_take k d u =
       ⊎_elim
-      (λ (e : k ≡ i). let x = ap (λ (m : ℕ). get_or (set s i 0) m 0) e ∙ get_or-set_same s i 0 0 in' in absurd (omega arith))
-      (λ (ne : k ≢ i).
-      let x = get_or-set_other s i k 0 0 ne in
-      let f = t k (omega arith) in
-      let nc : get_or s k 0 - 1 ≢ c = λ e. let g = ap (λ (m : ℕ). get_or ps m 0) e in ne (omega arith) in
-      let y = ap (λ (m : ℕ). get_or (set ps c 0) (m - 1) 0) x ∙ get_or-set_other ps c (get_or s k 0 - 1) 0 0 nc in
-      (omega arith, omega arith))
-      (cases_eq k i)
+      (λ (e : (k ≡ slot.number) × (get_or (set s slot.number None) k None ≡ None)). absurd cc)
+      (λ (e : (k ≢ slot.number) × (get_or (set s slot.number None) k None ≡ get_or s k None)).
+      let f = t k d (sym e.1 ∙ u) in
+      let there = ap number_of p in
+      let ne : d ≢ c = λ r. let g = ap (slot_of ps) r in let same : k ≡ slot.number = cc in e.0 same in
+      (f.0, ap number_of (get_or-set_other ps c d None None ne) ∙ f.1))
+      (written s slot.number None k in')
 
-  back_take : Back (set s i 0) (set ps c 0)
-  back_take d u =
+  back_take : Back (set s slot.number None) (set ps c None)
+  back_take d k u =
       ⊎_elim
-      (λ (e : d ≡ c). let x = ap (λ (m : ℕ). get_or (set ps c 0) m 0) e ∙ get_or-set_same ps c 0 0 cin in absurd (omega arith))
-      (λ (ne : d ≢ c).
-      let x = get_or-set_other ps c d 0 0 ne in
-      let f = b d (omega arith) in
-      let nc : get_or ps d 0 - 1 ≢ i = λ e. let g = ap (λ (m : ℕ). get_or s m 0) e in ne (omega arith) in
-      ap (λ (m : ℕ). get_or (set s i 0) (m - 1) 0) x ∙ get_or-set_other s i (get_or ps d 0 - 1) 0 0 nc ∙ f)
-      (cases_eq d c)
+      (λ (e : (d ≡ c) × (get_or (set ps c None) d None ≡ None)). let gone = ap number_of e.1 in absurd cc)
+      (λ (e : (d ≢ c) × (get_or (set ps c None) d None ≡ get_or ps d None)).
+      let f = b d k (sym (ap number_of e.1) ∙ u) in
+      let ne : k ≢ slot.number = λ r. let g = ap (λ (m : ℕ). get_or s m None) r in let same : d ≡ c = cc in e.0 same in
+      get_or-set_other s slot.number k None None ne ∙ f)
+      (written ps c None d cin)
 
-  pub kept_take : (new : List ℕ) → new ≡ set s i 0 → FreeFrom n new × Placed new (set ps c 0) × Back new (set ps c 0)
-  kept_take new e = subst (λ l. FreeFrom n l × Placed l (set ps c 0) × Back l (set ps c 0)) (sym e) (free_take, placed_take, back_take)
+  pub kept_take : (new : List (Option ℕ)) → new ≡ set s slot.number None → FreeFrom n new × Placed new (set ps c None) × Back new (set ps c None)
+  kept_take new e = subst (λ l. FreeFrom n l × Placed l (set ps c None) × Back l (set ps c None)) (sym e) (free_take, placed_take, back_take)
 
 -- ---- nothing held
-zeros : (n k : ℕ) → get_or {A = ℕ} (replicate n 0) k 0 ≡ 0
-zeros zero k = refl
-zeros (suc n) zero = refl
-zeros (suc n) (suc k) = zeros n k
+blank : {A : Type 0} (n k : ℕ) → get_or {A = Option A} (replicate n None) k None ≡ None
+blank zero k = refl
+blank (suc n) zero = refl
+blank (suc n) (suc k) = blank n k
 
-pub free_clear : (s : List ℕ) → s ≡ replicate 1024 0 → (k : ℕ) → get_or s k 0 ≡ 0
-free_clear s e k = ap (λ (l : List ℕ). get_or l k 0) e ∙ zeros 1024 k
+pub free_clear : (s : List (Option ℕ)) → s ≡ replicate 1024 None → (k : ℕ) → get_or s k None ≡ None
+free_clear s e k = ap (λ (l : List (Option ℕ)). get_or l k None) e ∙ blank 1024 k
 
-pub placed_clear : (s ps : List ℕ) → s ≡ replicate 1024 0 → Placed s ps
-placed_clear s ps e k u = let z = free_clear s e k in absurd (omega arith)
+pub placed_clear : (s : List (Option ℕ)) (ps : List (Option Slot)) → s ≡ replicate 1024 None → Placed s ps
+placed_clear s ps e k c u = let z = free_clear s e k in absurd cc
 
-pub back_clear : (s : List ℕ) → Back s (replicate 1024 0)
-back_clear s c u = let z = zeros 1024 c in absurd (omega arith)
+pub back_clear : (s : List (Option ℕ)) → Back s (replicate 1024 None)
+back_clear s c k u = let z = ap number_of (blank {A = Slot} 1024 c) in absurd cc

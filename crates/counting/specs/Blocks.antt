@@ -1,25 +1,25 @@
 -- Blocks of arrival positions, and the sums over them. Assumes nothing.
-use Rattle.std.specs.Prelude.{◌≡◌, ℕ, ◌+◌, ◌-◌, ◌^◌, ◌<◌, ◌≤◌, Bool, cond, not, List, take, count_by, ◌==◌, nat_le, slice_index}
+use Rattle.std.specs.Prelude.{◌≡◌, ℕ, ◌+◌, ◌-◌, ◌^◌, ◌<◌, ◌≤◌, Bool, cond, Option, is_some, List, take, count_by, nat_le, slice_index}
 use Rattle.std.specs.Int.Count.{count_trailing_zeros}
 
 -- how long the block is that ends at position p: the lowest one bit of p. It has the positions p - block p + 1 to p
 unfoldable pub block : ℕ → ℕ
 block p = 2 ^ count_trailing_zeros 16 p
 
--- position p is slot p - 1, and a slot is used unless it is 0
-abbrev pub used : ℕ → Bool
-used x = not (x == 0)
+-- position p is slot p - 1, and a slot is used if it has a code
+abbrev pub used : Option ℕ → Bool
+used slot = is_some slot
 
 -- what a slot counts for
-abbrev pub worth : ℕ → ℕ
-worth x = cond (used x) 1 0
+abbrev pub worth : Option ℕ → ℕ
+worth slot = cond (used slot) 1 0
 
 -- how many of the positions 1 to n are used
-unfoldable pub upto : List ℕ → ℕ → ℕ
+unfoldable pub upto : List (Option ℕ) → ℕ → ℕ
 upto slots n = count_by used (take n slots)
 
 -- the sum at each position p is how many positions of its block are used: with those before the block, it makes those up to p
-abbrev pub BlockSums : List ℕ → List ℕ → Type 0
+abbrev pub BlockSums : List ℕ → List (Option ℕ) → Type 0
 BlockSums sums slots = (p : ℕ) → 0 < p → p ≤ 1024 → slice_index sums p + upto slots (p - block p) ≡ upto slots p
 
 -- what position q adds to a count of the positions 1 to n, if it counts for w

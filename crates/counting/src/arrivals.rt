@@ -1,52 +1,54 @@
-// The arrival positions, as slots from 0 on, and the sum of the block that ends at each position. A slot holds one
-// more than its code, or 0 where it is free.
-ghost use Rattle.std.specs.Prelude.{◌≡◌, ◌<◌, ◌≤◌, length, replicate, slice_index, slice_set};
+// The arrival positions, as slots from 0 on, and the sum of the block that ends at each position. A used slot has a
+// code.
+ghost use Rattle.std.specs.Prelude.{◌≡◌, ◌<◌, ◌≤◌, IsSome, length, replicate, slice_index_or, slice_set};
 ghost use Rattle.counting.specs.Blocks.{worth, upto, BlockSums};
 
-use crate::blocks::{block_len, change};
+use crate::blocks::{Change, block_len};
+use crate::slot::Slot;
+use std::mem::replace;
 
 #[derive(Drop)]
 pub struct Arrivals {
-    slots: [u16; 1024],
+    slots: [Option<u16>; 1024],
     sums: [u16; 1025],
     ghost slotted: { length slots ≡ 1024 },
     ghost summed: { length sums ≡ 1025 },
     ghost right: { BlockSums sums slots },
 }
 
-// What a slot counts for: 1 if it is used.
-fn counted(slot: u16) -> u16
-    ensures { result ≡ worth slot }
+// What a slot counts for: 1 if it has a code.
+fn counted(code: Option<u16>) -> u16
+    ensures { result ≡ worth code }
 {
-    if slot == 0 { 0 } else { 1 }
+    u16::from(code.is_some())
 }
 
 impl Arrivals {
     pub(crate) fn new() -> Arrivals
-        ensures { result.slots ≡ replicate 1024 0 }
+        ensures { result.slots ≡ replicate 1024 None }
     {
         Arrivals {
-            slots: [0; 1024],
+            slots: [None; 1024],
             sums: [0; 1025],
         }
     }
 
-    pub(crate) fn get(&self, i: u16) -> u16
-        requires { i < 1024 }
-        ensures { result ≡ slice_index self.now.slots i }
+    pub(crate) fn get(&self, slot: Slot) -> Option<u16>
+        ensures { result ≡ slice_index_or self.now.slots slot.number None }
     {
-        self.slots[i as usize]
+        self.slots[slot.number as usize]
     }
 
-    pub(crate) fn put(&mut self, i: u16, slot: u16)
-        requires { i < 1024 }
-        ensures { self.new.slots ≡ slice_set self.old.slots i slot }
+    pub(crate) fn put(&mut self, slot: Slot, code: Option<u16>)
+        ensures { self.new.slots ≡ slice_set self.old.slots slot.number code }
     {
-        let at = i as usize;
-        let less = counted(self.slots[at]);
-        let more = counted(slot);
-        change(&mut self.sums, i + 1, less, more);
-        self.slots[at] = slot;
+        let old = replace(&mut self.slots[slot.number as usize], code);
+        let change = Change {
+            slot,
+            less: counted(old),
+            more: counted(code),
+        };
+        change.apply(&mut self.sums);
     }
 
     // How many of the first n slots are used: from block to block, down to the first.
@@ -64,11 +66,10 @@ impl Arrivals {
     }
 
     // The used slot that has `rank` used slots before it: each turn halves the blocks that are left to look at.
-    pub(crate) fn select(&self, rank: u16) -> u16
+    pub(crate) fn select(&self, rank: u16) -> Slot
         requires { rank < upto self.now.slots 1024 }
-        ensures within { result < 1024 }
-        ensures before { upto self.now.slots result ≡ rank }
-        ensures held { 0 < slice_index self.now.slots result }
+        ensures before { upto self.now.slots result.number ≡ rank }
+        ensures held { IsSome (slice_index_or self.now.slots result.number None) }
     {
         let mut at: u16 = 0;
         let mut rest = rank;
@@ -81,6 +82,6 @@ impl Arrivals {
                 rest -= sum;
             }
         }
-        at
+        Slot { number: at }
     }
 }

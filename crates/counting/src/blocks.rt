@@ -2,6 +2,8 @@
 ghost use Rattle.std.specs.Prelude.{◌≡◌, ℕ, ◌+◌, ◌-◌, ◌<◌, ◌≤◌, length, slice_index};
 ghost use Rattle.counting.specs.Blocks.{block, from, Changed};
 
+use crate::slot::Slot;
+
 // How long the block is that ends at a position: the lowest one bit of the position's number.
 pub(crate) fn block_len(position: u16) -> u16
     requires { 0 < position }
@@ -12,19 +14,27 @@ pub(crate) fn block_len(position: u16) -> u16
     1u16 << position.trailing_zeros()
 }
 
-// What one position counts for goes from `less` to `more`: brings the sum of each block that has it up to date.
-pub(crate) fn change(sums: &mut [u16], position: u16, less: u16, more: u16)
-    requires long { length sums.old ≡ 1025 }
-    requires some { 0 < position }
-    requires within { position ≤ 1024 }
-    requires worths { (less ≤ 1) × (more ≤ 1) }
-    requires room { (p : ℕ) → 0 < p → p ≤ 1024 → slice_index sums.old p ≤ 1024 }
-    requires enough { (p : ℕ) → 0 < p → p ≤ 1024 → from position less p ≤ slice_index sums.old p + from position less (p - block p) }
-    ensures { Changed position less more sums.old sums.new }
-{
-    let mut p = position;
-    while p <= 1024 {
-        sums[p as usize] = sums[p as usize] + more - less;
-        p += block_len(p);
+// What a slot counts for goes from `less` to `more`.
+#[derive(Clone, Copy)]
+pub(crate) struct Change {
+    pub(crate) slot: Slot,
+    pub(crate) less: u16,
+    pub(crate) more: u16,
+    ghost worths: { (less ≤ 1) × (more ≤ 1) },
+}
+
+impl Change {
+    // Brings the sum of each block that has the slot's position up to date.
+    pub(crate) fn apply(&self, sums: &mut [u16; 1025])
+        requires room { (p : ℕ) → 0 < p → p ≤ 1024 → slice_index sums.old p ≤ 1024 }
+        requires enough { (p : ℕ) → 0 < p → p ≤ 1024 → from (self.now.slot.number + 1) self.now.less p ≤ slice_index sums.old p + from (self.now.slot.number + 1) self.now.less (p - block p) }
+        ensures long { length sums.new ≡ 1025 }
+        ensures changed { Changed (self.now.slot.number + 1) self.now.less self.now.more sums.old sums.new }
+    {
+        let mut p = self.slot.number + 1;
+        while p <= 1024 {
+            sums[p as usize] = sums[p as usize] + self.more - self.less;
+            p += block_len(p);
+        }
     }
 }

@@ -6,3 +6,4 @@ pub mod alike;
 mod arrivals;
 mod blocks;
 pub mod queue;
+mod slot;

@@ -1,18 +1,19 @@
 // The queue by counting.
-ghost use Rattle.std.specs.Prelude.{◌≡◌, ◌≤◌, [], length, slice_index};
+ghost use Rattle.std.specs.Prelude.{◌≡◌, ◌≤◌, [], length, slice_index_or};
 ghost use Rattle.holder.specs.Kinds.{queue_seat};
 ghost use Rattle.counting.specs.Slots.{codes, FreeFrom, Placed, Back};
 ghost use Rattle.counting.specs.Codes.{codes_once, codes_below, codes_few};
 ghost use Rattle.std.proofs.Common.{rules};
 
 use crate::arrivals::Arrivals;
+use crate::slot::Slot;
 use holder::fault::HolderFault;
 use holder::holder::{ADD_BOUND, CODE_BOUND, Holder};
 
 #[derive(Drop)]
 pub struct CountingQueue {
     arrivals: Arrivals,
-    positions: [u16; 1024],
+    positions: [Option<Slot>; 1024],
     added: u16,
     ghost long: { length positions ≡ 1024 },
     ghost few: { added ≤ 1024 },
@@ -28,20 +29,16 @@ impl CountingQueue {
     {
         CountingQueue {
             arrivals: Arrivals::new(),
-            positions: [0; 1024],
+            positions: [None; 1024],
             added: 0,
         }
     }
 
-    // The arrival position of a code, from 1 on, or 0 where it is not held.
-    fn position(&self, code: u16) -> u16
-        ensures { result ≡ slice_index self.now.positions code }
+    // The slot in which a code stands, if it is held.
+    fn position(&self, code: u16) -> Option<Slot>
+        ensures { result ≡ slice_index_or self.now.positions code None }
     {
-        if code < CODE_BOUND {
-            self.positions[code as usize]
-        } else {
-            0
-        }
+        *self.positions.get(code as usize)?
     }
 }
 
@@ -67,19 +64,16 @@ impl Holder for CountingQueue {
     }
 
     fn rank(&self, code: u16) -> Result<u16, HolderFault> {
-        let position = self.position(code);
-        if position == 0 {
-            return Err(HolderFault::NotHeld);
-        }
-        Ok(self.arrivals.used_before(position - 1))
+        let slot = self.position(code).ok_or(HolderFault::NotHeld)?;
+        Ok(self.arrivals.used_before(slot.number))
     }
 
     fn at(&self, place: u16) -> Result<u16, HolderFault> {
         if place >= self.count() {
             return Err(HolderFault::NoSuchPlace);
         }
-        let i = self.arrivals.select(place);
-        Ok(self.arrivals.get(i) - 1)
+        let slot = self.arrivals.select(place);
+        self.arrivals.get(slot).ok_or(HolderFault::NoSuchPlace)
     }
 
     fn clear(&mut self) {
@@ -90,25 +84,20 @@ impl Holder for CountingQueue {
         if code >= CODE_BOUND {
             return Err(HolderFault::CodeTooLarge);
         }
-        if self.position(code) > 0 {
+        if self.position(code).is_some() {
             return Err(HolderFault::AlreadyHeld);
         }
-        if self.added >= ADD_BOUND {
-            return Err(HolderFault::AddsUsedUp);
-        }
-        self.arrivals.put(self.added, code + 1);
+        let slot = Slot::new(self.added).ok_or(HolderFault::AddsUsedUp)?;
+        self.arrivals.put(slot, Some(code));
+        self.positions[code as usize] = Some(slot);
         self.added += 1;
-        self.positions[code as usize] = self.added;
         Ok(())
     }
 
     fn take(&mut self, code: u16) -> Result<(), HolderFault> {
-        let position = self.position(code);
-        if position == 0 {
-            return Err(HolderFault::NotHeld);
-        }
-        self.arrivals.put(position - 1, 0);
-        self.positions[code as usize] = 0;
+        let slot = self.position(code).ok_or(HolderFault::NotHeld)?;
+        self.arrivals.put(slot, None);
+        self.positions[code as usize] = None;
         Ok(())
     }
 }

@@ -1,11 +1,5 @@
-use Rattle.std.proofs.Common.{refl}
 use Rattle.counting.specs.Sums.{sums_free}
 use Rattle.counting.proofs.arrivals.Arrivals.new.Goals as goal
 
-pub invariant_of-result : goal.invariant_of-result
-invariant_of-result c =
-    record {
-      slotted = refl;
-      summed = refl;
-      right = sums_free;
-    }
+pub invariant_of-result-clause-right : goal.invariant_of-result-clause-right
+invariant_of-result-clause-right c = sums_free

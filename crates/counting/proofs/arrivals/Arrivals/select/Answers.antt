@@ -32,4 +32,4 @@ returns c =
     let one : at + c.loop-width.width ≡ at + 1 = omega arith in
     let u = ap (upto s) one in
     let m = upto_one s at (omega arith) in
-    record { within = omega arith; before = omega arith; held = used_here s at (omega arith) (omega arith) }
+    record { before = omega arith; held = used_here s at (omega arith) (omega arith) }

@@ -1,34 +1,34 @@
-use Rattle.std.proofs.Common.{◌≡◌, ◌+◌, get_or, set, sym, refl, ap, ◌∙◌, arith, length-set, rules}
+use Rattle.std.proofs.Common.{◌≡◌, sym, refl, ap, ◌∙◌, arith, length-set, rules}
 use Rattle.giving.proofs.Places.{inserted_end}
 use Rattle.counting.specs.Slots.{codes}
 use Rattle.counting.specs.Codes.{codes_pushed}
 use Rattle.counting.proofs.Kept.{kept_add}
-use Rattle.counting.proofs.Held.{held_at, not_held}
+use Rattle.counting.proofs.Held.{held, not_held, position_free, no_slot, slot_number}
 use Rattle.counting.proofs.queue.CountingQueueHolder.add.Goals as goal
 
-pub returns-then-position-gt0 : goal.returns-then-position-gt0
-returns-then-position-gt0 c =
-    let h = held_at c.args.self.now c.args.code c.position.result c.position.ensures (omega arith) in
-    record { answer = search rules; list = refl; count = refl }
+pub returns-then-is_some-clause-answer : goal.returns-then-is_some-clause-answer
+returns-then-is_some-clause-answer c = let h = held c.args.self.now c.args.code c.position.result c.position.ensures (sym c.is_some.ensures ∙ c.if-is_some.true) in search rules
 
-pub returns-then-self-ge-ADD_BOUND : goal.returns-then-self-ge-ADD_BOUND
-returns-then-self-ge-ADD_BOUND c =
-    let a = not_held c.args.self.now c.args.code (omega arith) in
-    record { answer = search rules; list = refl; count = refl }
+pub returns-in_err-slot : goal.returns-in_err-slot
+returns-in_err-slot c =
+    let q = c.args.self.now in
+    let a = not_held q c.args.code (position_free q c.args.code c.position.result c.position.ensures (sym c.is_some.ensures ∙ c.if-is_some.false)) in
+    let few = no_slot q.added c.new.result c.new.ensures c.in_err-slot.ensures.ok_part in
+    record { answer = search rules; list = search rules; count = search rules }
 
 pub invariant_of-self : goal.invariant_of-self
 invariant_of-self c =
     let q = c.args.self.now in
     let s = q.arrivals.slots in
-    let n = q.added in
+    let slot = c.in_ok-slot.slot in
     let k = c.args.code in
-    let e : c.put.new.self.slots ≡ set s n (k + 1) = c.put.ensures in
-    let z : get_or q.positions k 0 ≡ 0 = omega arith in
-    let kept = kept_add s q.positions n k (omega arith) (omega arith) (omega arith) q.free q.placed q.back z c.put.new.self.slots e in
+    let z = position_free q k c.position.result c.position.ensures (sym c.is_some.ensures ∙ c.if-is_some.false) in
+    let n : slot.number ≡ q.added = slot_number q.added c.new.result slot c.new.ensures c.in_ok-slot.ensures.ok_part in
+    let kept = kept_add s q.positions slot k (omega arith) (omega arith) (omega arith) (rw n q.free) q.placed q.back z c.put.new.self.slots c.put.ensures in
     record {
       long = simp length-set q.long;
       few = omega arith;
-      free = kept.0;
+      free = rw n at kept.0;
       placed = kept.1;
       back = kept.2;
     }
@@ -36,9 +36,11 @@ invariant_of-self c =
 pub returns : goal.returns
 returns c =
     let q = c.args.self.now in
-    let a = not_held q c.args.code (omega arith) in
+    let slot = c.in_ok-slot.slot in
+    let a = not_held q c.args.code (position_free q c.args.code c.position.result c.position.ensures (sym c.is_some.ensures ∙ c.if-is_some.false)) in
+    let n : slot.number ≡ q.added = slot_number q.added c.new.result slot c.new.ensures c.in_ok-slot.ensures.ok_part in
     record {
       answer = search rules;
-      list = ap codes c.put.ensures ∙ codes_pushed q.arrivals.slots q.added c.args.code (omega arith) q.free ∙ sym (inserted_end (codes q.arrivals.slots) c.args.code);
+      list = ap codes c.put.ensures ∙ codes_pushed q.arrivals.slots slot.number c.args.code (omega arith) (rw n q.free) ∙ sym (inserted_end (codes q.arrivals.slots) c.args.code);
       count = refl;
     }
