@@ -6,7 +6,7 @@ ghost use Rattle.calls.specs.Sessions.{Session};
 ghost use Rattle.calls.specs.Laws.{EveryAnswerIsTheRules, NothingElseMakesASession, EveryStepWasAcceptable, PlacingIsJudgedByTheRules, GrantedExactlyWhenTrue, TrueOrdersRunWhole, AnsweredRankErrorsAreShortestStretches, PlacedRankErrorsAreShortestStretches, RankErrorsAddUpToPassingsOver, GrantedCertificatesAreTrue, PlacedOrderKeepsToTime};
 ghost use Rattle.docket.specs.Pairs.{sheet_ops};
 ghost use Rattle.docket.specs.Slots.{Keeps, call_of, reply_of};
-ghost use Rattle.docket.specs.Tied.{Tied, ops_in, steps_in, bound_in, replying, leaving, replying_all, leaving_all};
+ghost use Rattle.docket.specs.Tied.{ops_in, steps_in, bound_in, replying, leaving, replying_all, leaving_all};
 
 use crate::docket::Docket;
 use crate::slot::Slot;
@@ -16,9 +16,8 @@ use sheet::sheet::Sheet;
 
 // Attends to one call, and puts the answer into its slot.
 pub fn fill<H: Holder>(docket: &mut Docket<H>, slot: &mut Slot)
-    ensures answer { Tied H.Holder docket.old → reply_of slot.new ≡ replying H.Holder docket.old (call_of slot.old) }
-    ensures tied { Tied H.Holder docket.old → Tied H.Holder docket.new }
-    ensures steps { Tied H.Holder docket.old → steps_in docket.new ≡ leaving H.Holder docket.old (call_of slot.old) }
+    ensures answer { reply_of slot.new ≡ replying H.Holder docket.old (call_of slot.old) }
+    ensures steps { steps_in docket.new ≡ leaving H.Holder docket.old (call_of slot.old) }
     ensures table { ops_in docket.new ≡ ops_in docket.old }
     ensures bound { bound_in docket.new ≡ bound_in docket.old }
     ensures kept { Keeps slot.old slot.new }
@@ -52,9 +51,8 @@ pub fn fill<H: Holder>(docket: &mut Docket<H>, slot: &mut Slot)
 
 // Attends to the calls in turn.
 pub fn attend_all<H: Holder>(docket: &mut Docket<H>, slots: &mut [Slot])
-    ensures answers { Tied H.Holder docket.old → map reply_of slots.new ≡ replying_all H.Holder docket.old (map call_of slots.old) }
-    ensures tied { Tied H.Holder docket.old → Tied H.Holder docket.new }
-    ensures steps { Tied H.Holder docket.old → steps_in docket.new ≡ leaving_all H.Holder docket.old (map call_of slots.old) }
+    ensures answers { map reply_of slots.new ≡ replying_all H.Holder docket.old (map call_of slots.old) }
+    ensures steps { steps_in docket.new ≡ leaving_all H.Holder docket.old (map call_of slots.old) }
     ensures table { ops_in docket.new ≡ ops_in docket.old }
     ensures bound { bound_in docket.new ≡ bound_in docket.old }
     ensures kept { AllZip Keeps slots.old slots.new }
@@ -74,7 +72,6 @@ pub fn attend<'a, H: Holder, I: Item>(
 ) -> Docket<H>
     ensures answers { map reply_of slots.new ≡ answers_for H.Holder.seat (sheet_ops I.Item.number sheet.now) k [] (map call_of slots.old) }
     ensures steps { steps_in result ≡ placed_by H.Holder.seat (sheet_ops I.Item.number sheet.now) k [] (map call_of slots.old) }
-    ensures tied { Tied H.Holder result }
     ensures table { ops_in result ≡ sheet_ops I.Item.number sheet.now }
     ensures bound { bound_in result ≡ k }
     ensures kept { AllZip Keeps slots.old slots.new }

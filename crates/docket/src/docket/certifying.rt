@@ -1,7 +1,7 @@
 // The call that certifies the placed order.
 ghost use Rattle.std.specs.Prelude.{◌≡◌};
 ghost use Rattle.docket.specs.InStep.{three};
-ghost use Rattle.docket.specs.Tied.{Tied, certifying, writing};
+ghost use Rattle.docket.specs.Tied.{certifying, writing};
 
 use crate::docket::Docket;
 use crate::ledger::sums::{missing, sum_up, write_instants, write_latenesses, write_ranks};
@@ -19,15 +19,20 @@ impl<H: Holder> Docket<H> {
         instants: &mut [u64],
         latenesses: &mut [u16],
     ) -> Result<Certificate, DocketFault>
-        ensures answer { Tied H.Holder self.now → result ≡ certifying H.Holder self.now (three ranks.old instants.old latenesses.old) }
-        ensures written { Tied H.Holder self.now → three ranks.new instants.new latenesses.new ≡ writing H.Holder self.now (three ranks.old instants.old latenesses.old) result }
+        ensures answer { result ≡ certifying H.Holder self.now (three ranks.old instants.old latenesses.old) }
+        ensures written { three ranks.new instants.new latenesses.new ≡ writing H.Holder self.now (three ranks.old instants.old latenesses.old) result }
     {
         if let Some(a) = missing(&self.ledger) {
-            return Err(DocketFault::StepsMissing(self.ledger.placed, a));
+            return Err(DocketFault::StepsMissing {
+                placed: self.ledger.placed,
+                unplaced: a,
+            });
         }
         let n = self.ledger.count as usize;
         if ranks.len() < n || instants.len() < n || latenesses.len() < n {
-            return Err(DocketFault::BufferTooShort(self.ledger.count));
+            return Err(DocketFault::BufferTooShort {
+                needed: self.ledger.count,
+            });
         }
         write_ranks(&self.ledger, ranks);
         write_instants(&self.ledger, instants);
