@@ -6,13 +6,34 @@ ghost use Rattle.calls.specs.Sessions.{Session};
 ghost use Rattle.calls.specs.Laws.{EveryAnswerIsTheRules, NothingElseMakesASession, EveryStepWasAcceptable, PlacingIsJudgedByTheRules, GrantedExactlyWhenTrue, TrueOrdersRunWhole, AnsweredRankErrorsAreShortestStretches, PlacedRankErrorsAreShortestStretches, RankErrorsAddUpToPassingsOver, GrantedCertificatesAreTrue, PlacedOrderKeepsToTime};
 ghost use Rattle.docket.specs.Pairs.{sheet_ops};
 ghost use Rattle.docket.specs.Slots.{Keeps, call_of, reply_of};
-ghost use Rattle.docket.specs.Tied.{ops_in, steps_in, bound_in, replying, leaving, replying_all, leaving_all};
+ghost use Rattle.docket.specs.InStep.{three};
+ghost use Rattle.docket.specs.Tied.{ops_in, steps_in, bound_in, certifying, writing, replying, leaving, replying_all, leaving_all};
 
+use crate::buffers::Buffers;
 use crate::docket::Docket;
 use crate::slot::Slot;
+use calls::certificate::Certificate;
+use calls::fault::DocketFault;
 use holder::holder::Holder;
 use item::item::Item;
 use sheet::sheet::Sheet;
+
+// Certifies into three slices.
+fn certify_into<H: Holder>(
+    docket: &Docket<H>,
+    ranks: &mut [u16],
+    instants: &mut [u64],
+    latenesses: &mut [u16],
+) -> Result<Certificate, DocketFault>
+    ensures answer { result ≡ certifying H.Holder docket.now (three ranks.old instants.old latenesses.old) }
+    ensures written { three ranks.new instants.new latenesses.new ≡ writing H.Holder docket.now (three ranks.old instants.old latenesses.old) result }
+{
+    docket.certify(&mut Buffers {
+        ranks,
+        instants,
+        latenesses,
+    })
+}
 
 // Attends to one call, and puts the answer into its slot.
 pub fn fill<H: Holder>(docket: &mut Docket<H>, slot: &mut Slot)
@@ -44,7 +65,7 @@ pub fn fill<H: Holder>(docket: &mut Docket<H>, slot: &mut Slot)
             latenesses,
             answer,
         } => {
-            *answer = docket.certify(ranks, instants, latenesses);
+            *answer = certify_into(docket, ranks, instants, latenesses);
         }
     }
 }
