@@ -1,6 +1,9 @@
 -- A docket in step stays in step, and answers by the rules. Assumes nothing.
 use Rattle.std.proofs.Common.{◌≡◌, ℕ, ◌+◌, ◌<◌, ◌≤◌, Bool, true, false, cond, not, ◌&&◌, eqb, ltb, leb, List, [], ◌∷◌, ◌++◌, map, length, get_or, take, set, Some, None, Ok, Err, Option, Result, sym, refl, ap, ◌∙◌, ⊎_elim, arith}
 use Rattle.std.specs.List.{AllByRecursion}
+use Rattle.std.proofs.Props.{props}
+use Rattle.holder.specs.declared.holder.Holder.{Ghosts}
+use Rattle.docket.specs.declared.docket.Docket.{Docket}
 use Rattle.std.proofs.ByRecursion.{All-from_get_or}
 use Rattle.std.proofs.lemmas.List.{take_more_set, length-take-le, get_or-take}
 use Rattle.std.proofs.lemmas.Bool.{cases_lt, cases_Bool, le-leb, cond-true, cond-false}
@@ -23,6 +26,13 @@ use Rattle.docket.proofs.Turns.{judged_in}
 use Rattle.docket.proofs.Pushes.{held_push, ranks_push, lateness_push, lateness_le, held_times, adds_push, adds_le}
 use Rattle.docket.proofs.Table.{op_at, length_ops, keeps_one, map_keeps_one, map_keeps_all, late_up}
 use Rattle.docket.proofs.Holds.{Sane, stepped_after}
+
+-- ---- dockets
+-- a docket whose holder and ledger are those of d is d
+pub same_docket : {X : Type 0} (m : Ghosts X) (d : Docket X m) (t : InStep m.seat (m.giving d.holder) (m.adds d.holder) d.ledger) → ◌≡◌ {A = Docket X m} (record { holder = d.holder; ledger = d.ledger; tied = t }) d
+same_docket m d t =
+    let P : IsProp (InStep m.seat (m.giving d.holder) (m.adds d.holder) d.ledger) = hlevel props in
+    ap (λ (u : InStep m.seat (m.giving d.holder) (m.adds d.holder) d.ledger). record { holder = d.holder; ledger = d.ledger; tied = u }) (P t d.tied)
 
 -- ---- what a ledger says of itself
 module _ (l : Ledger) where

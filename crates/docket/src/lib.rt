@@ -2,6 +2,7 @@
 #![tactic(auto)]
 
 pub mod attend;
+pub mod buffers;
 pub mod docket;
 mod entry;
 mod ledger;

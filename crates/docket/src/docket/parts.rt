@@ -83,24 +83,20 @@ pub(crate) fn move_latenesses<H: Holder>(holder: &H, entries: &mut [Entry], r: u
 pub(crate) fn judge<H: Holder>(holder: &H, ledger: &Ledger, x: u16) -> Result<u16, DocketFault>
     ensures { result ≡ judged ledger.now.placed ledger.now.count x ledger.now.k (entry_of ledger.now.entries x).placed (lowest (waits ledger.now.entries (entry_of ledger.now.entries x).paired.start) 0 ledger.now.count) (rank_found (entry_of ledger.now.entries x).paired.deed (H.Holder.giving holder.now)) }
 {
+    let placed = ledger.placed;
     if x >= ledger.count {
-        return Err(DocketFault::NoSuchOperation(ledger.placed));
+        return Err(DocketFault::NoSuchOperation { placed });
     }
-    let e = ledger.entries[x as usize];
-    if e.placed {
-        return Err(DocketFault::PlacedAlready(ledger.placed));
+    let entry = ledger.entries[x as usize];
+    if entry.placed {
+        return Err(DocketFault::PlacedAlready { placed });
     }
-    if let Some(b) = waiting(ledger, e.paired.start) {
-        return Err(DocketFault::TooEarly(ledger.placed, b));
+    if let Some(waiting) = waiting(ledger, entry.paired.start) {
+        return Err(DocketFault::TooEarly { placed, waiting });
     }
-    match rank_of(holder, e.paired.deed) {
-        None => Err(DocketFault::NotHeld(ledger.placed)),
-        Some(r) => {
-            if r > ledger.k {
-                Err(DocketFault::AboveBound(ledger.placed, r))
-            } else {
-                Ok(r)
-            }
-        }
+    let rank_error = rank_of(holder, entry.paired.deed).ok_or(DocketFault::NotHeld { placed })?;
+    if rank_error > ledger.k {
+        return Err(DocketFault::AboveBound { placed, rank_error });
     }
+    Ok(rank_error)
 }

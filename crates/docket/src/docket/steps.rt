@@ -2,7 +2,7 @@
 ghost use Rattle.std.specs.Prelude.{◌≡◌, false, is_ok};
 ghost use Rattle.calls.specs.Faults.{code_of};
 ghost use Rattle.calls.specs.Rules.{joined, lift_answer, without_last};
-ghost use Rattle.docket.specs.Tied.{Tied, ops_in, steps_in, bound_in, placing, running};
+ghost use Rattle.docket.specs.Tied.{ops_in, steps_in, bound_in, placing, running};
 
 use crate::docket::Docket;
 use crate::docket::parts::{judge, move_latenesses, replay, step};
@@ -13,52 +13,53 @@ use holder::holder::Holder;
 impl<H: Holder> Docket<H> {
     // Places the operation as the next step, and answers its rank error. Refused, it changes nothing.
     pub fn place(&mut self, operation: u16) -> Result<u16, DocketFault>
-        ensures answer { Tied H.Holder self.old → result ≡ placing H.Holder self.old operation }
-        ensures tied { Tied H.Holder self.old → Tied H.Holder self.new }
+        ensures answer { result ≡ placing H.Holder self.old operation }
         ensures steps { steps_in self.new ≡ joined (steps_in self.old) operation result }
         ensures table { ops_in self.new ≡ ops_in self.old }
         ensures bound { bound_in self.new ≡ bound_in self.old }
         ensures refused { is_ok result ≡ false → self.new ≡ self.old }
     {
-        match judge(&self.holder, &self.ledger, operation) {
-            Err(e) => Err(e),
-            Ok(rank) => {
-                let deed = self.ledger.entries[operation as usize].paired.deed;
-                move_latenesses(&self.holder, &mut self.ledger.entries, rank, true);
-                step(&mut self.holder, operation, deed);
-                mark(&mut self.ledger, operation, rank);
-                Ok(rank)
+        let rank = judge(&self.holder, &self.ledger, operation)?;
+        let deed = self.ledger.entries[operation as usize].paired.deed;
+        move_latenesses(&self.holder, &mut self.ledger.entries, rank, true);
+        step(&mut self.holder, operation, deed);
+        mark(&mut self.ledger, operation, rank);
+        Ok(rank)
+    }
+
+    // Places the operations one after another until the first refusal. Answers how many were placed, and that refusal.
+    pub fn place_all(&mut self, order: &[u16]) -> (u16, Option<DocketFault>)
+        ensures count { result.0 ≡ (running H.Holder self.old order.now).new }
+        ensures stopped { result.1 ≡ (running H.Holder self.old order.now).stopped }
+        ensures steps { steps_in self.new ≡ (running H.Holder self.old order.now).steps }
+        ensures table { ops_in self.new ≡ ops_in self.old }
+        ensures bound { bound_in self.new ≡ bound_in self.old }
+    {
+        let mut placed: u16 = 0;
+        for x in order {
+            if let Err(fault) = self.place(*x) {
+                return (placed, Some(fault));
             }
+            placed += 1;
         }
+        (placed, None)
     }
 
     // Places the operations one after another until the first refusal. Answers how many were placed, and that refusal in
     // plain numbers, all 0 for none.
     pub fn run(&mut self, order: &[u16]) -> (u16, RefusalCode)
-        ensures answer { Tied H.Holder self.old → (result.0 ≡ (running H.Holder self.old order.now).new) × (result.1 ≡ code_of (running H.Holder self.old order.now).stopped) }
-        ensures tied { Tied H.Holder self.old → Tied H.Holder self.new }
-        ensures steps { Tied H.Holder self.old → steps_in self.new ≡ (running H.Holder self.old order.now).steps }
+        ensures answer { (result.0 ≡ (running H.Holder self.old order.now).new) × (result.1 ≡ code_of (running H.Holder self.old order.now).stopped) }
+        ensures steps { steps_in self.new ≡ (running H.Holder self.old order.now).steps }
         ensures table { ops_in self.new ≡ ops_in self.old }
         ensures bound { bound_in self.new ≡ bound_in self.old }
     {
-        let mut new: u16 = 0;
-        for x in order {
-            match self.place(*x) {
-                Ok(_) => {
-                    new += 1;
-                }
-                Err(e) => {
-                    return (new, RefusalCode::of(Some(e)));
-                }
-            }
-        }
-        (new, RefusalCode::of(None))
+        let (placed, stopped) = self.place_all(order);
+        (placed, RefusalCode::from(stopped))
     }
 
     // Takes the last step back, and answers its operation; all else is as before that step.
     pub fn lift(&mut self) -> Result<u16, DocketFault>
         ensures answer { result ≡ lift_answer (steps_in self.old) }
-        ensures tied { Tied H.Holder self.old → Tied H.Holder self.new }
         ensures steps { steps_in self.new ≡ without_last (steps_in self.old) }
         ensures table { ops_in self.new ≡ ops_in self.old }
         ensures bound { bound_in self.new ≡ bound_in self.old }

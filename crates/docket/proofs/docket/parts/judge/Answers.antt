@@ -1,5 +1,7 @@
-use Rattle.std.proofs.Common.{sym, ap, ◌∙◌}
+use Rattle.std.proofs.Common.{◌≡◌, Some, None, Err, sym, ap, ◌∙◌, arith}
+use Rattle.std.proofs.lemmas.Result.{err_from_is_err_and}
 use Rattle.std.proofs.lemmas.Bool.{lt-ltb, le-ltb, cond-true, cond-false}
+use Rattle.calls.specs.declared.fault.DocketFault.TheVariants.{NotHeld}
 use Rattle.docket.specs.Moves.{judged_rank}
 use Rattle.docket.proofs.Turns.{judged_beyond, judged_in, judged_early, judged_ready}
 use Rattle.docket.proofs.docket.parts.judge.Goals as goal
@@ -7,21 +9,26 @@ use Rattle.docket.proofs.docket.parts.judge.Goals as goal
 pub returns-then-x-ledger : goal.returns-then-x-ledger
 returns-then-x-ledger g c = judged_beyond _ _ _ _ _ _ _ c.if-x-ledger.true
 
-pub returns-then-e : goal.returns-then-e
-returns-then-e g c = sym (judged_in _ _ _ _ _ _ _ c.if-x-ledger.false ∙ cond-true _ _ _ c.if-e.true)
+pub returns-then-entry : goal.returns-then-entry
+returns-then-entry g c = sym (judged_in _ _ _ _ _ _ _ c.if-x-ledger.false ∙ cond-true _ _ _ c.if-entry.true)
 
 pub returns-in-Some : goal.returns-in-Some
 returns-in-Some g c =
-    judged_early _ _ _ _ _ _ _ _ c.if-x-ledger.false c.if-e.false c.in-Some.ensures
+    judged_early _ _ _ _ _ _ _ _ c.if-x-ledger.false c.if-entry.false c.in-Some.ensures
 
-pub returns-in-None : goal.returns-in-None
-returns-in-None g c =
-    sym (judged_ready _ _ _ _ _ _ _ c.if-x-ledger.false c.if-e.false (sym c.in_default.ensures) ∙ ap (judged_rank _ _) (sym c.in-None.ensures))
+pub returns-in_err-rank_error : goal.returns-in_err-rank_error
+returns-in_err-rank_error g c =
+    let p = err_from_is_err_and c.from_residual.result c.from_residual.ensures.1 in
+    let none : c.rank_of.result ≡ None = grind (arith, c.in_err-rank_error.ensures.value) in
+    let fault : c.in_err-rank_error.field-0.0 ≡ NotHeld c.args.ledger.now.placed = grind (arith, c.in_err-rank_error.ensures.value) in
+    rw (p.1, p.2) (ap Err fault ∙ sym (judged_ready _ _ _ _ _ _ _ c.if-x-ledger.false c.if-entry.false (sym c.in_default.ensures) ∙ ap (judged_rank _ _) (sym c.rank_of.ensures ∙ none)))
 
-pub returns-then-r-ledger : goal.returns-then-r-ledger
-returns-then-r-ledger g c =
-    sym (judged_ready _ _ _ _ _ _ _ c.if-x-ledger.false c.if-e.false (sym c.in_default.ensures) ∙ ap (judged_rank _ _) (sym c.in-Some-rank_of.ensures) ∙ cond-true _ _ _ (lt-ltb _ _ c.if-r-ledger.true))
+pub returns-then-rank_error-ledger : goal.returns-then-rank_error-ledger
+returns-then-rank_error-ledger g c =
+    let some : c.rank_of.result ≡ Some c.in_ok-rank_error.rank_error = grind (arith, c.in_ok-rank_error.ensures.value) in
+    sym (judged_ready _ _ _ _ _ _ _ c.if-x-ledger.false c.if-entry.false (sym c.in_default.ensures) ∙ ap (judged_rank _ _) (sym c.rank_of.ensures ∙ some) ∙ cond-true _ _ _ (lt-ltb _ _ c.if-rank_error-ledger.true))
 
-pub returns-else-r-ledger : goal.returns-else-r-ledger
-returns-else-r-ledger g c =
-    sym (judged_ready _ _ _ _ _ _ _ c.if-x-ledger.false c.if-e.false (sym c.in_default.ensures) ∙ ap (judged_rank _ _) (sym c.in-Some-rank_of.ensures) ∙ cond-false _ _ _ (le-ltb _ _ c.if-r-ledger.false))
+pub returns : goal.returns
+returns g c =
+    let some : c.rank_of.result ≡ Some c.in_ok-rank_error.rank_error = grind (arith, c.in_ok-rank_error.ensures.value) in
+    sym (judged_ready _ _ _ _ _ _ _ c.if-x-ledger.false c.if-entry.false (sym c.in_default.ensures) ∙ ap (judged_rank _ _) (sym c.rank_of.ensures ∙ some) ∙ cond-false _ _ _ (le-ltb _ _ c.if-rank_error-ledger.false))
