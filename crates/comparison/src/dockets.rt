@@ -1,5 +1,5 @@
 // Cases of calls on a docket.
-ghost use Rattle.std.specs.Prelude.{◌<◌, ◌≤◌, length};
+ghost use Rattle.std.specs.Prelude.{◌<◌, length, Some, None};
 
 use crate::hash::{OF_NOTHING, hash_on};
 use crate::words::{certify_words, number_words, run_words};
@@ -18,21 +18,18 @@ use sheet::sheet::Sheet;
 use std::alloc::{AllocError, Global};
 use trace::read::read;
 
-// How many bytes the call at the front of the bytes has; 0 where there is none.
-fn call_len(bytes: &[u8]) -> usize
-    ensures { result ≤ length bytes.now }
+// The call at the front of the bytes, as its own bytes, and those behind it; none where no whole call stands there.
+fn next_call(bytes: &[u8]) -> Option<(&[u8], &[u8])>
+    ensures { elim result [ Some c ↦ length c.1.now < length bytes.now | None ↦ Unit {0} ] }
 {
-    if bytes.len() == 0 {
-        return 0;
-    }
-    let needed = match bytes[0] {
+    let needed = match bytes.first()? {
         0 => 3,
         1 => 3 + 2 * number_at(bytes, 1, 2) as usize,
         2 => 1,
         3 => 7,
-        _ => 0,
+        _ => return None,
     };
-    if needed <= bytes.len() { needed } else { 0 }
+    bytes.split_at_checked(needed)
 }
 
 // A slot with the call that the bytes say.
@@ -68,34 +65,12 @@ fn slot_of(heap: Global, call: &[u8]) -> Result<Slot, AllocError> {
 // Slots with the calls that the bytes say.
 fn slots_of(heap: Global, calls: &[u8]) -> Result<Vec<Slot>, AllocError> {
     let mut slots = Vec::new(heap);
-    let mut at = 0;
-    while at < calls.len() {
-        let used = call_len(&calls[at..]);
-        if used == 0 {
-            break;
-        }
-        slots.push(slot_of(heap, &calls[at..at + used])?)?;
-        at += used;
+    let mut rest = calls;
+    while let Some((call, behind)) = next_call(rest) {
+        slots.push(slot_of(heap, call)?)?;
+        rest = behind;
     }
     Ok(slots)
-}
-
-// The hash of numbers of 16 bits, after what gave the hash `before`.
-fn hash_short(before: u64, numbers: &[u16]) -> u64 {
-    let mut hash = before;
-    for number in numbers {
-        hash = hash_on(hash, &number.to_be_bytes());
-    }
-    hash
-}
-
-// The hash of numbers of 64 bits, after what gave the hash `before`.
-fn hash_long(before: u64, numbers: &[u64]) -> u64 {
-    let mut hash = before;
-    for number in numbers {
-        hash = hash_on(hash, &number.to_be_bytes());
-    }
-    hash
 }
 
 // What a slot was answered.
@@ -117,21 +92,19 @@ fn slot_words(heap: Global, slot: &Slot) -> Result<String, AllocError> {
             latenesses,
             answer,
         } => {
-            let hash = hash_long(hash_short(OF_NOTHING, ranks), instants);
-            certify_words(heap, *answer, hash_short(hash, latenesses))
+            let hash = ranks.iter().fold(OF_NOTHING, |hash, n| hash_on(hash, &n.to_be_bytes()));
+            let hash = instants.iter().fold(hash, |hash, n| hash_on(hash, &n.to_be_bytes()));
+            let hash = latenesses.iter().fold(hash, |hash, n| hash_on(hash, &n.to_be_bytes()));
+            certify_words(heap, *answer, hash)
         }
     }
 }
 
 // The hash of the codes that a holder holds, in the order in which it would give them.
 fn held_hash<H: Holder>(holder: &H) -> u64 {
-    let mut hash = OF_NOTHING;
-    for place in 0..holder.count() {
-        if let Ok(code) = holder.at(place) {
-            hash = hash_on(hash, &code.to_be_bytes());
-        }
-    }
-    hash
+    (0..holder.count())
+        .filter_map(|place| holder.at(place).ok())
+        .fold(OF_NOTHING, |hash, code| hash_on(hash, &code.to_be_bytes()))
 }
 
 // The answers to the calls on a docket of the sheet, and what its holder still holds.

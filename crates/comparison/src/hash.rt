@@ -9,9 +9,5 @@ pub(crate) const OF_NOTHING: u64 = 14695981039346656037;
 pub(crate) fn hash_on(before: u64, bytes: &[u8]) -> u64
     ensures { result ≡ hashed before bytes.now }
 {
-    let mut hash = before;
-    for byte in bytes {
-        hash = (hash ^ *byte as u64).wrapping_mul(1099511628211);
-    }
-    hash
+    bytes.iter().fold(before, |hash, byte| (hash ^ u64::from(*byte)).wrapping_mul(1099511628211))
 }

@@ -1,5 +1,5 @@
 // Cases of calls on a holder.
-ghost use Rattle.std.specs.Prelude.{◌<◌, ◌≤◌, length};
+ghost use Rattle.std.specs.Prelude.{◌<◌, length, Some, None};
 
 use crate::words::holder_words;
 use counting::queue::CountingQueue;
@@ -10,24 +10,22 @@ use record::bytes::number_at;
 use std::alloc::{AllocError, Global};
 use turns::calls::{HolderCall, answer_to};
 
-// How many bytes the call at the front of the bytes has; 0 where there is none.
-fn call_len(bytes: &[u8]) -> usize
-    ensures { result ≤ length bytes.now }
+// The call at the front of the bytes, as its own bytes, and those behind it; none where no whole call stands there.
+fn next_call(bytes: &[u8]) -> Option<(&[u8], &[u8])>
+    ensures { elim result [ Some c ↦ length c.1.now < length bytes.now | None ↦ Unit {0} ] }
 {
-    if bytes.len() == 0 {
-        return 0;
-    }
-    let needed = match bytes[0] {
+    let needed = match bytes.first()? {
         0 | 1 => 1,
         2 | 3 | 4 | 5 => 3,
-        _ => 0,
+        _ => return None,
     };
-    if needed <= bytes.len() { needed } else { 0 }
+    bytes.split_at_checked(needed)
 }
 
-// The call that a byte and a number say.
-fn call_of(byte: u8, number: u16) -> HolderCall {
-    match byte {
+// The call that the bytes say: its letter, and then its number.
+fn call_of(call: &[u8]) -> HolderCall {
+    let number = number_at(call, 1, 2) as u16;
+    match number_at(call, 0, 1) {
         0 => HolderCall::Clear,
         1 => HolderCall::Count,
         2 => HolderCall::Rank(number),
@@ -40,17 +38,12 @@ fn call_of(byte: u8, number: u16) -> HolderCall {
 // The answers of a holder to the calls that the bytes say, each behind a space.
 fn answers_of<H: Holder>(heap: Global, holder: &mut H, calls: &[u8]) -> Result<String, AllocError> {
     let mut text = String::from_str(heap, "holder")?;
-    let mut at = 0;
-    while at < calls.len() {
-        let used = call_len(&calls[at..]);
-        if used == 0 {
-            break;
-        }
-        let call = call_of(calls[at], number_at(calls, at + 1, 2) as u16);
-        let words = holder_words(heap, answer_to(holder, call))?;
+    let mut rest = calls;
+    while let Some((call, behind)) = next_call(rest) {
+        let words = holder_words(heap, answer_to(holder, call_of(call)))?;
         text.push_str(" ")?;
         text.push_str(words.as_str())?;
-        at += used;
+        rest = behind;
     }
     Ok(text)
 }
