@@ -55,10 +55,10 @@ impl fmt::Display for Refusal {
     ghost output = { λ r. Some (refusal_line r) };
 
     fn fmt<W: fmt::Write>(&self, f: &mut fmt::Formatter<W>) -> fmt::Result {
-        let layer = self.layer;
-        let number = self.number;
-        let place = self.place;
-        let detail = self.detail;
-        write!(f, "refused {layer} {number} place {place} detail {detail}")
+        write!(
+            f,
+            "refused {} {} place {} detail {}",
+            self.layer, self.number, self.place, self.detail
+        )
     }
 }
