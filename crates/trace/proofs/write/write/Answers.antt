@@ -1,6 +1,6 @@
 use Rattle.std.proofs.Common.{◌≡◌, ◌+◌, ◌*◌, ◌≤◌, [], ◌++◌, length, drop, Ok, ap, ◌∙◌, subst, arith, rules}
 use mathlib.Core.Logic.{∥∥₁_map}
-use Rattle.item.specs.Items.{Lawful}
+use Rattle.item.proofs.Laws.{lawful}
 use Rattle.sheet.specs.Consistency.{Consistent}
 use Rattle.sheet.specs.Sheets.{entered}
 use Rattle.frame.specs.Headers.{bytes_of_header}
@@ -13,8 +13,7 @@ use Rattle.trace.proofs.write.write.Goals as goal
 pub returns : goal.returns
 returns g c =
     let t = g.I.Item in
-    let met = g.met.I.Item in
-    let law : Lawful g.I.Item = record { coded = met.coded; small = met.small; there = met.there; back = met.back } in
+    let law = lawful g.met.I.Item in
     let ops = c.all-ops.result.now in
     let items = c.all-ops.ensures.entered in
     let k = c.args.k in
