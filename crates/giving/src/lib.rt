@@ -16,12 +16,9 @@ pub fn place_of(code: u16, list: &[u16]) -> usize
     ensures only { Once list.now → (k : ℕ) → k < length list.now → slice_index list.now k ≡ code → result ≡ k }
     ensures seated { result ≡ length list.now → (seat : ℕ) → seat ≤ length list.now → place code (insert list.now seat code) ≡ seat }
 {
-    for i in 0..list.len() {
-        if list[i] == code {
-            return i;
-        }
-    }
-    list.len()
+    list.iter()
+        .position(|held| code == *held)
+        .unwrap_or(list.len())
 }
 
 // How often a code stands in the list: some times exactly where it has a place there. One time less after that code
@@ -31,13 +28,7 @@ pub fn times_of(code: u16, list: &[u16]) -> usize
     ensures some { nat_lt 0 result ≡ stands code list.now }
     ensures beside { TimesBeside code list.now result }
 {
-    let mut n: usize = 0;
-    for i in 0..list.len() {
-        if list[i] == code {
-            n += 1;
-        }
-    }
-    n
+    list.iter().filter(|held| code == **held).count()
 }
 
 // Whether one code stands before another. A third code that leaves, or comes in at any seat, changes nothing of it.
