@@ -1,8 +1,8 @@
 -- The first n of a list after a write at n, and after a shift down to i. Assumes nothing.
-use Rattle.std.proofs.Common.{◌≡◌, ℕ, suc, ◌+◌, ◌-◌, ◌<◌, ◌≤◌, Bool, true, false, cond, List, [], ◌∷◌, ◌++◌, reverse, length, take, drop, sym, refl, ap, ◌∙◌, add-one, arith}
+use Rattle.std.proofs.Common.{◌≡◌, ℕ, suc, ◌+◌, ◌-◌, ◌<◌, ◌≤◌, List, ◌++◌, length, take, drop, sym, ap, ◌∙◌, add-one, arith}
 use lib.Seq.{paste}
 use Rattle.std.specs.List.{remove}
-use Rattle.std.proofs.lemmas.List.{take-take, drop-take, length-drop, length-take-le, reverse-append}
+use Rattle.std.proofs.lemmas.List.{take-take, drop-take, length-drop, length-take-le}
 use Rattle.std.proofs.lemmas.List.Edits.{take-paste}
 use Rattle.holder.specs.declared.row.Row.{Row}
 use Rattle.holder.specs.Rows.{row_list}
@@ -22,8 +22,3 @@ shifted xs ys n i w h e =
 -- what a row holds after the codes behind place i moved up by one
 pub row_removed : (r : Row) (ys : List ℕ) (i : ℕ) → i < length (row_list r) → ys ≡ paste r.codes i (drop (i + 1) r.codes) (r.len - (i + 1)) → take (r.len - 1) ys ≡ remove (row_list r) i
 row_removed r ys i h e = let n = length-take-le r.len r.codes (omega arith) in shifted r.codes ys r.len i (omega arith) (omega arith) e
-
--- a row that grew at its end or not, read from the end
-pub reverse_either : (b : Bool) (L : List ℕ) (c : ℕ) → reverse (cond b (L ++ c ∷ []) L) ≡ cond b (c ∷ reverse L) (reverse L)
-reverse_either true L c = reverse-append L (c ∷ [])
-reverse_either false L c = refl

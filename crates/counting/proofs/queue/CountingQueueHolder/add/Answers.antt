@@ -1,5 +1,5 @@
 use Rattle.std.proofs.Common.{◌≡◌, sym, refl, ap, ◌∙◌, arith, length-set, rules}
-use Rattle.giving.proofs.Places.{inserted_end}
+use Rattle.std.proofs.lemmas.List.Edits.{insert_end}
 use Rattle.counting.specs.Slots.{codes}
 use Rattle.counting.specs.Codes.{codes_pushed}
 use Rattle.counting.proofs.Kept.{kept_add}
@@ -41,6 +41,6 @@ returns c =
     let n : slot.number ≡ q.added = slot_number q.added c.new.result slot c.new.ensures c.in_ok-slot.ensures.ok_part in
     record {
       answer = search rules;
-      list = ap codes c.put.ensures ∙ codes_pushed q.arrivals.slots slot.number c.args.code (omega arith) (rw n q.free) ∙ sym (inserted_end (codes q.arrivals.slots) c.args.code);
+      list = ap codes c.put.ensures ∙ codes_pushed q.arrivals.slots slot.number c.args.code (omega arith) (rw n q.free) ∙ sym (insert_end (codes q.arrivals.slots) c.args.code);
       count = refl;
     }
