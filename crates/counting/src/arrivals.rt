@@ -58,6 +58,7 @@ impl Arrivals {
     {
         let mut sum: u16 = 0;
         let mut at = n;
+        // Kept (no plainer): it goes by whole blocks, as no range does; successors, take_while, map and sum say it in more.
         while at > 0 {
             sum += self.sums[at as usize];
             at -= block_len(at);
@@ -74,6 +75,7 @@ impl Arrivals {
         let mut at: u16 = 0;
         let mut rest = rank;
         let mut width: u16 = 1024;
+        // Kept (no plainer): the halved width is no index; a `for` over the widths has `at` and `rest` beside it just so.
         while width > 1 {
             width /= 2;
             let sum = self.sums[(at + width) as usize];

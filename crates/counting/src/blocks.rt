@@ -32,6 +32,7 @@ impl Change {
         ensures changed { Changed (self.now.slot.number + 1) self.now.less self.now.more sums.old sums.new }
     {
         let mut p = self.slot.number + 1;
+        // Kept (no plainer): it goes by whole blocks, each as long as its own position says, as no range does.
         while p <= 1024 {
             sums[p as usize] = sums[p as usize] + self.more - self.less;
             p += block_len(p);

@@ -22,6 +22,3 @@ loop-p-preserved c =
       simp length-set c.loop-p.invariant.0,
       rw c.block_len-p.ensures.value (walk_more q change.less change.more p (get_or c.loop-p.sums p 0 + change.more - change.less) c.args.sums.now c.loop-p.sums (omega arith) c.loop-p-test.true (omega arith) (omega arith) i),
     )
-
-pub returns-clause-changed : goal.returns-clause-changed
-returns-clause-changed c = λ p s w. c.loop-p.invariant.1.done p s (omega arith) w
