@@ -1,5 +1,5 @@
 -- What the position of a code says of a queue by counting. Assumes nothing.
-use Rattle.std.proofs.Common.{◌≡◌, ℕ, ◌<◌, ◌≤◌, true, false, Option, Some, None, length, get_or, sym, refl, ap, ◌∙◌, arith, ⊎_elim, if◌then◌else◌, nat_lt}
+use Rattle.std.proofs.Common.{◌≡◌, ℕ, ◌<◌, ◌≤◌, Bool, true, false, Option, Some, None, length, get_or, sym, ap, arith, ⊎_elim, if◌then◌else◌, nat_lt}
 use Rattle.std.proofs.lemmas.Bool.{cases_lt, lt-ltb, le-ltb}
 use Rattle.std.specs.Option.{is_some}
 use Rattle.giving.specs.Lists.{place}
@@ -16,11 +16,6 @@ pub record HeldAt (q : CountingQueue) (c i : ℕ) : Type 0 where
   pub here : place c (codes q.arrivals.slots) ≡ upto q.arrivals.slots i
   pub held : upto q.arrivals.slots i < length (codes q.arrivals.slots)
 
--- a slot that is there
-slot_there : (slot : Option Slot) → is_some slot ≡ true → (there : Slot) × (slot ≡ Some there)
-slot_there None h = absurd cc
-slot_there (Some there) h = (there, refl)
-
 pub held_at : (q : CountingQueue) (c : ℕ) (slot : Slot) → get_or q.positions c None ≡ Some slot → HeldAt q c slot.number
 held_at q c slot e =
     let s = q.arrivals.slots in
@@ -29,15 +24,13 @@ held_at q c slot e =
     record { slot = b; here = code_place s q.positions c slot.number q.placed b; held = a.0 }
 
 -- a code that has a position is held, and one that has none is not
-pub held : (q : CountingQueue) (c : ℕ) (slot : Option Slot) → slot ≡ get_or q.positions c None → is_some slot ≡ true → place c (codes q.arrivals.slots) < length (codes q.arrivals.slots)
-held q c slot e h = let t = slot_there slot h in let at = held_at q c t.0 (sym e ∙ t.1) in omega arith
+pub held : (q : CountingQueue) (c : ℕ) (slot : Option Slot) (some : Bool) → slot ≡ get_or q.positions c None → some ≡ is_some slot → some ≡ true → place c (codes q.arrivals.slots) < length (codes q.arrivals.slots)
+held q c None some e i t = absurd cc
+held q c (Some slot) some e i t = let h = held_at q c slot (sym e) in omega arith
 
-none_there : (slot : Option Slot) → is_some slot ≡ false → slot ≡ None
-none_there None h = refl
-none_there (Some there) h = absurd cc
-
-pub position_free : (q : CountingQueue) (c : ℕ) (slot : Option Slot) → slot ≡ get_or q.positions c None → is_some slot ≡ false → get_or q.positions c None ≡ None
-position_free q c slot e h = sym e ∙ none_there slot h
+pub no_position : (q : CountingQueue) (c : ℕ) (slot : Option Slot) (some : Bool) → slot ≡ get_or q.positions c None → some ≡ is_some slot → some ≡ false → get_or q.positions c None ≡ None
+no_position q c None some e i t = sym e
+no_position q c (Some slot) some e i t = absurd cc
 
 pub not_held : (q : CountingQueue) (c : ℕ) → get_or q.positions c None ≡ None → length (codes q.arrivals.slots) ≤ place c (codes q.arrivals.slots)
 not_held q c z = place_absent c (codes q.arrivals.slots) (codes_absent q.arrivals.slots q.positions c q.placed (ap number_of z))

@@ -3,8 +3,10 @@ use Rattle.std.specs.Prelude.{◌≡◌, ℕ, zero, suc, ◌+◌, ◌<◌, ◌�
 use Rattle.std.proofs.Common.{sym, ap, ◌∙◌, ⊎_elim, arith, take-append-drop, drop-cons}
 use Rattle.std.specs.List.{remove}
 use Rattle.std.proofs.lemmas.List.{take_all, get_or_at, set_split, append-nil, length-append, get_or-drop, get_or_past}
+use Rattle.std.proofs.lemmas.List.Edits.{remove-append_right}
 use Rattle.std.proofs.lemmas.List.Elements.{filter_map-append}
 use Rattle.std.proofs.lemmas.List.Sums.{sum_by-cons}
+use Rattle.std.proofs.Math.Nat.{sub_self}
 use Rattle.std.proofs.Math.Numerals.{one-add}
 use Rattle.std.proofs.lemmas.Bool.{cases_lt}
 use Rattle.giving.specs.Lists.{times, place, without, Once, Below}
@@ -124,10 +126,6 @@ code_in s i u = coded s i (slice_index_or s i None) refl u
 pub code_place : (s : List (Option ℕ)) (ps : List (Option Slot)) (c i : ℕ) → Placed s ps → slice_index_or s i None ≡ Some c → place c (codes s) ≡ upto s i
 code_place s ps c i t e = let a = code_at s i c e in place_only c (upto s i) (codes s) (codes_once s ps t) a.0 a.1
 
-removed_mid : (A : List ℕ) (c : ℕ) (B : List ℕ) → remove (A ++ c ∷ B) (length A) ≡ A ++ B
-removed_mid [] c B = refl
-removed_mid (x ∷ A) c B = ap (λ (l : List ℕ). x ∷ l) (removed_mid A c B)
-
 pub codes_without : (s : List (Option ℕ)) (ps : List (Option Slot)) (c i : ℕ) → Placed s ps → slice_index_or s i None ≡ Some c → codes (slice_set s i None) ≡ without c (codes s)
 codes_without s ps c i t e =
     let h = within s i c e in
@@ -136,7 +134,7 @@ codes_without s ps c i t e =
     let split : codes s ≡ A ++ c ∷ B = codes_at s i c h e in
     let p : place c (codes s) ≡ length A = code_place s ps c i t e ∙ sym (length_codes s i) in
     let left : codes (slice_set s i None) ≡ A ++ B = codes_set s i None h ∙ ap (λ (l : List ℕ). A ++ l) (codes_free (drop (suc i) s)) in
-    let mid : remove (codes s) (place c (codes s)) ≡ A ++ B = ap (remove (codes s)) p ∙ ap (λ (l : List ℕ). remove l (length A)) split ∙ removed_mid A c B in
+    let mid : remove (codes s) (place c (codes s)) ≡ A ++ B = ap (remove (codes s)) p ∙ ap (λ (l : List ℕ). remove l (length A)) split ∙ remove-append_right A (c ∷ B) (length A) (length A) refl (omega arith) ∙ ap (λ (n : ℕ). A ++ remove (c ∷ B) n) (sub_self (length A)) in
     left ∙ sym mid ∙ removed_without c (codes s)
 
 -- the codes are those of the slots before n, where none from n on is used

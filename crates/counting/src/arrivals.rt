@@ -1,7 +1,7 @@
 // The arrival positions, as slots from 0 on, and the sum of the block that ends at each position. A used slot has a
 // code.
 ghost use Rattle.std.specs.Prelude.{◌≡◌, ◌<◌, ◌≤◌, IsSome, length, replicate, slice_index_or, slice_set};
-ghost use Rattle.counting.specs.Blocks.{worth, upto, BlockSums};
+ghost use Rattle.counting.specs.Blocks.{upto, BlockSums};
 
 use crate::blocks::{Change, block_len};
 use crate::slot::Slot;
@@ -14,13 +14,6 @@ pub struct Arrivals {
     ghost slotted: { length slots ≡ 1024 },
     ghost summed: { length sums ≡ 1025 },
     ghost right: { BlockSums sums slots },
-}
-
-// What a slot counts for: 1 if it has a code.
-fn counted(code: Option<u16>) -> u16
-    ensures { result ≡ worth code }
-{
-    u16::from(code.is_some())
 }
 
 impl Arrivals {
@@ -42,11 +35,11 @@ impl Arrivals {
     pub(crate) fn put(&mut self, slot: Slot, code: Option<u16>)
         ensures { self.new.slots ≡ slice_set self.old.slots slot.number code }
     {
-        let old = replace(&mut self.slots[slot.number as usize], code);
+        let before = replace(&mut self.slots[slot.number as usize], code);
         let change = Change {
             slot,
-            less: counted(old),
-            more: counted(code),
+            before,
+            after: code,
         };
         change.apply(&mut self.sums);
     }
@@ -58,6 +51,7 @@ impl Arrivals {
     {
         let mut sum: u16 = 0;
         let mut at = n;
+        // Kept (no plainer): it goes by whole blocks, as no range does; successors, take_while, map and sum say it in more.
         while at > 0 {
             sum += self.sums[at as usize];
             at -= block_len(at);
@@ -74,6 +68,7 @@ impl Arrivals {
         let mut at: u16 = 0;
         let mut rest = rank;
         let mut width: u16 = 1024;
+        // Kept (no plainer): the halved width is no index; a `for` over the widths has `at` and `rest` beside it just so.
         while width > 1 {
             width /= 2;
             let sum = self.sums[(at + width) as usize];

@@ -1,6 +1,6 @@
 // Blocks of arrival positions 1 to 1,024: one ends at each position.
 ghost use Rattle.std.specs.Prelude.{◌≡◌, ℕ, ◌+◌, ◌-◌, ◌<◌, ◌≤◌, length, slice_index};
-ghost use Rattle.counting.specs.Blocks.{block, from, Changed};
+ghost use Rattle.counting.specs.Blocks.{block, worth, from, Changed};
 
 use crate::slot::Slot;
 
@@ -14,26 +14,35 @@ pub(crate) fn block_len(position: u16) -> u16
     1u16 << position.trailing_zeros()
 }
 
-// What a slot counts for goes from `less` to `more`.
+// What a slot counts for: 1 if it has a code.
+fn counted(code: Option<u16>) -> u16
+    ensures { result ≡ worth code }
+{
+    u16::from(code.is_some())
+}
+
+// What a slot has before and after a write.
 #[derive(Clone, Copy)]
 pub(crate) struct Change {
     pub(crate) slot: Slot,
-    pub(crate) less: u16,
-    pub(crate) more: u16,
-    ghost worths: { (less ≤ 1) × (more ≤ 1) },
+    pub(crate) before: Option<u16>,
+    pub(crate) after: Option<u16>,
 }
 
 impl Change {
     // Brings the sum of each block that has the slot's position up to date.
     pub(crate) fn apply(&self, sums: &mut [u16; 1025])
         requires room { (p : ℕ) → 0 < p → p ≤ 1024 → slice_index sums.old p ≤ 1024 }
-        requires enough { (p : ℕ) → 0 < p → p ≤ 1024 → from (self.now.slot.number + 1) self.now.less p ≤ slice_index sums.old p + from (self.now.slot.number + 1) self.now.less (p - block p) }
+        requires enough { (p : ℕ) → 0 < p → p ≤ 1024 → from (self.now.slot.number + 1) (worth self.now.before) p ≤ slice_index sums.old p + from (self.now.slot.number + 1) (worth self.now.before) (p - block p) }
         ensures long { length sums.new ≡ 1025 }
-        ensures changed { Changed (self.now.slot.number + 1) self.now.less self.now.more sums.old sums.new }
+        ensures changed { Changed (self.now.slot.number + 1) (worth self.now.before) (worth self.now.after) sums.old sums.new }
     {
+        let less = counted(self.before);
+        let more = counted(self.after);
         let mut p = self.slot.number + 1;
+        // Kept (no plainer): it goes by whole blocks, each as long as its own position says, as no range does.
         while p <= 1024 {
-            sums[p as usize] = sums[p as usize] + self.more - self.less;
+            sums[p as usize] = sums[p as usize] + more - less;
             p += block_len(p);
         }
     }

@@ -1,5 +1,3 @@
-use Rattle.std.proofs.Common.{◌≡◌, ◌+◌, None, get_or, ap, ◌∙◌}
-use Rattle.counting.specs.Blocks.{worth, Changed}
 use Rattle.counting.specs.Sums.{sum_le, sum_enough, sums_set}
 use Rattle.counting.proofs.arrivals.Arrivals.put.Goals as goal
 
@@ -9,15 +7,10 @@ apply-requires-clause-room c = let r = c.args.self.now in sum_le r.sums r.slots 
 pub apply-requires-clause-enough : goal.apply-requires-clause-enough
 apply-requires-clause-enough c =
     let r = c.args.self.now in
-    let i = c.args.slot.number in
-    let e : c.counted.result ≡ worth (get_or r.slots i None) = c.counted.ensures ∙ ap worth c.replace-old.ensures.value in
-    rw e (sum_enough r.sums r.slots i r.slotted r.right)
+    rw c.replace-before.ensures.value (sum_enough r.sums r.slots c.args.slot.number r.slotted r.right)
 
 pub invariant_of-self-clause-right : goal.invariant_of-self-clause-right
 invariant_of-self-clause-right c =
     let r = c.args.self.now in
-    let i = c.args.slot.number in
-    let new = c.apply.new.sums in
-    let e : c.counted.result ≡ worth (get_or r.slots i None) = c.counted.ensures ∙ ap worth c.replace-old.ensures.value in
-    let changed : Changed (i + 1) (worth (get_or r.slots i None)) (worth c.args.code) r.sums new = rw (e, c.counted-2.ensures) at c.apply.ensures.changed in
-    rw c.replace-old.ensures.after (sums_set r.sums new r.slots i c.args.code r.slotted r.right changed)
+    let changed = rw c.replace-before.ensures.value at c.apply.ensures.changed in
+    rw c.replace-before.ensures.after (sums_set r.sums c.apply.new.sums r.slots c.args.slot.number c.args.code r.slotted r.right changed)

@@ -1,5 +1,5 @@
 use Rattle.std.proofs.Common.{◌+◌, ◌-◌, get_or, arith, length-set}
-use Rattle.counting.specs.Blocks.{block}
+use Rattle.counting.specs.Blocks.{block, worth}
 use Rattle.counting.specs.Sums.{from_on, from_off}
 use Rattle.counting.proofs.Chains.{walk_start, walk_more}
 use Rattle.counting.proofs.blocks.Change.apply.Goals as goal
@@ -7,21 +7,19 @@ use Rattle.counting.proofs.blocks.Change.apply.Goals as goal
 pub loop-p-init : goal.loop-p-init
 loop-p-init c =
     let change = c.args.self.now in
-    (omega arith, walk_start (change.slot.number + 1) change.less change.more c.args.sums.now (omega arith) (omega arith))
+    (omega arith, walk_start (change.slot.number + 1) (worth change.before) (worth change.after) c.args.sums.now (omega arith) (omega arith))
 
 pub loop-p-preserved : goal.loop-p-preserved
 loop-p-preserved c =
-    let change = c.args.self.now in
-    let q = change.slot.number + 1 in
+    let q = c.args.self.now.slot.number + 1 in
+    let less = worth c.args.self.now.before in
+    let more = worth c.args.self.now.after in
     let p = c.loop-p.p in
     let i = c.loop-p.invariant.1 in
-    let on = from_on q change.less p i.past in
-    let off = from_off q change.less (p - block p) i.has in
+    let on = from_on q less p i.past in
+    let off = from_off q less (p - block p) i.has in
     let read = i.rest p (omega arith) in
-    let some = c.requires.enough p (omega arith) (omega arith) in (
+    let enough = c.requires.enough p (omega arith) (omega arith) in (
       simp length-set c.loop-p.invariant.0,
-      rw c.block_len-p.ensures.value (walk_more q change.less change.more p (get_or c.loop-p.sums p 0 + change.more - change.less) c.args.sums.now c.loop-p.sums (omega arith) c.loop-p-test.true (omega arith) (omega arith) i),
+      rw c.block_len-p.ensures.value (walk_more q less more p (get_or c.loop-p.sums p 0 + c.counted-more.result - c.counted-less.result) c.args.sums.now c.loop-p.sums (omega arith) c.loop-p-test.true (omega arith) (omega arith) i),
     )
-
-pub returns-clause-changed : goal.returns-clause-changed
-returns-clause-changed c = λ p s w. c.loop-p.invariant.1.done p s (omega arith) w

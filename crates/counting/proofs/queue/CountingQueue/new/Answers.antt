@@ -1,19 +1,16 @@
-use Rattle.std.proofs.Common.{None, replicate, refl, arith}
+use Rattle.std.proofs.Common.{None, replicate}
 use Rattle.counting.specs.Codes.{codes_none}
 use Rattle.counting.proofs.Kept.{free_clear, placed_clear, back_clear}
 use Rattle.counting.proofs.queue.CountingQueue.new.Goals as goal
 
-pub invariant_of-result : goal.invariant_of-result
-invariant_of-result c =
-    let s = c.new.result.slots in
-    let e = c.new.ensures in
-    record {
-      long = refl;
-      few = omega arith;
-      free = (λ k h. free_clear s e k);
-      placed = placed_clear s (replicate 1024 None) e;
-      back = back_clear s;
-    }
+pub invariant_of-result-clause-free : goal.invariant_of-result-clause-free
+invariant_of-result-clause-free c = λ k h. free_clear c.new.result.slots c.new.ensures k
+
+pub invariant_of-result-clause-placed : goal.invariant_of-result-clause-placed
+invariant_of-result-clause-placed c = placed_clear c.new.result.slots (replicate 1024 None) c.new.ensures
+
+pub invariant_of-result-clause-back : goal.invariant_of-result-clause-back
+invariant_of-result-clause-back c = back_clear c.new.result.slots
 
 pub returns-clause-list : goal.returns-clause-list
-returns-clause-list c = codes_none c.new.result.slots (free_clear _ c.new.ensures)
+returns-clause-list c = codes_none c.new.result.slots (free_clear c.new.result.slots c.new.ensures)

@@ -1,30 +1,35 @@
-use Rattle.std.proofs.Common.{◌≡◌, sym, refl, ap, ◌∙◌, arith, length-set, rules}
+use Rattle.std.proofs.Common.{◌≡◌, None, get_or, sym, ap, ◌∙◌, arith, length-set, rules}
 use Rattle.std.proofs.lemmas.List.Edits.{insert_end}
 use Rattle.counting.specs.Slots.{codes}
 use Rattle.counting.specs.Codes.{codes_pushed}
 use Rattle.counting.proofs.Kept.{kept_add}
-use Rattle.counting.proofs.Held.{held, not_held, position_free, no_slot, slot_number}
+use Rattle.counting.proofs.Held.{held, not_held, no_position, no_slot, slot_number}
 use Rattle.counting.proofs.queue.CountingQueueHolder.add.Goals as goal
+use Rattle.counting.proofs.queue.CountingQueueHolder.add.Goals.{After-new}
 
 pub returns-then-is_some-clause-answer : goal.returns-then-is_some-clause-answer
-returns-then-is_some-clause-answer c = let h = held c.args.self.now c.args.code c.position.result c.position.ensures (sym c.is_some.ensures ∙ c.if-is_some.true) in search rules
+returns-then-is_some-clause-answer c =
+    let h = held c.args.self.now c.args.code c.position.result c.is_some.result c.position.ensures c.is_some.ensures c.if-is_some.true in
+    search rules
 
-pub returns-in_err-slot : goal.returns-in_err-slot
-returns-in_err-slot c =
+-- the code has no position
+free : (c : After-new) → get_or c.args.self.now.positions c.args.code None ≡ None
+free c = no_position c.args.self.now c.args.code c.position.result c.is_some.result c.position.ensures c.is_some.ensures c.if-is_some.false
+
+pub returns-in_err-slot-clause-answer : goal.returns-in_err-slot-clause-answer
+returns-in_err-slot-clause-answer c =
     let q = c.args.self.now in
-    let a = not_held q c.args.code (position_free q c.args.code c.position.result c.position.ensures (sym c.is_some.ensures ∙ c.if-is_some.false)) in
+    let a = not_held q c.args.code (free (goal.at.returns-in_err-slot-clause-answer c).After-new) in
     let few = no_slot q.added c.new.result c.new.ensures c.in_err-slot.ensures.ok_part in
-    record { answer = search rules; list = search rules; count = search rules }
+    search rules
 
 pub invariant_of-self : goal.invariant_of-self
 invariant_of-self c =
     let q = c.args.self.now in
-    let s = q.arrivals.slots in
     let slot = c.in_ok-slot.slot in
-    let k = c.args.code in
-    let z = position_free q k c.position.result c.position.ensures (sym c.is_some.ensures ∙ c.if-is_some.false) in
-    let n : slot.number ≡ q.added = slot_number q.added c.new.result slot c.new.ensures c.in_ok-slot.ensures.ok_part in
-    let kept = kept_add s q.positions slot k (omega arith) (omega arith) (omega arith) (rw n q.free) q.placed q.back z c.put.new.self.slots c.put.ensures in
+    let n = slot_number q.added c.new.result slot c.new.ensures c.in_ok-slot.ensures.ok_part in
+    let kept =
+    kept_add q.arrivals.slots q.positions slot c.args.code (omega arith) (omega arith) (omega arith) (rw n q.free) q.placed q.back (free (goal.at.invariant_of-self c).After-new) c.put.new.self.slots c.put.ensures in
     record {
       long = simp length-set q.long;
       few = omega arith;
@@ -33,14 +38,14 @@ invariant_of-self c =
       back = kept.2;
     }
 
-pub returns : goal.returns
-returns c =
+pub returns-clause-answer : goal.returns-clause-answer
+returns-clause-answer c =
+    let a = not_held c.args.self.now c.args.code (free (goal.at.returns-clause-answer c).After-new) in
+    search rules
+
+pub returns-clause-list : goal.returns-clause-list
+returns-clause-list c =
     let q = c.args.self.now in
     let slot = c.in_ok-slot.slot in
-    let a = not_held q c.args.code (position_free q c.args.code c.position.result c.position.ensures (sym c.is_some.ensures ∙ c.if-is_some.false)) in
-    let n : slot.number ≡ q.added = slot_number q.added c.new.result slot c.new.ensures c.in_ok-slot.ensures.ok_part in
-    record {
-      answer = search rules;
-      list = ap codes c.put.ensures ∙ codes_pushed q.arrivals.slots slot.number c.args.code (omega arith) (rw n q.free) ∙ sym (insert_end (codes q.arrivals.slots) c.args.code);
-      count = refl;
-    }
+    let n = slot_number q.added c.new.result slot c.new.ensures c.in_ok-slot.ensures.ok_part in
+    ap codes c.put.ensures ∙ codes_pushed q.arrivals.slots slot.number c.args.code (omega arith) (rw n q.free) ∙ sym (insert_end (codes q.arrivals.slots) c.args.code)
