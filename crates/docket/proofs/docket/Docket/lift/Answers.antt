@@ -1,4 +1,4 @@
-use Rattle.std.proofs.Common.{◌<◌, false, refl, ◌∙◌, arith, rules}
+use Rattle.std.proofs.Common.{◌<◌, refl, ◌∙◌, arith, rules}
 use Rattle.docket.specs.Moves.{one_less}
 use Rattle.docket.proofs.Table.{flag_kept}
 use Rattle.docket.proofs.Lifts.{lift_none, lifted_answer, lifted_ops, lifted_steps, lifted_in_step}

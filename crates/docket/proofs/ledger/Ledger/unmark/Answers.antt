@@ -1,4 +1,4 @@
-use Rattle.std.proofs.Common.{◌≡◌, ◌-◌, ◌<◌, get_or, refl, arith, length-set}
+use Rattle.std.proofs.Common.{◌-◌, ◌<◌, get_or, refl, arith, length-set}
 use Rattle.docket.specs.Kept.{numbers_in}
 use Rattle.docket.proofs.Books.{once_unmarked, flagged_unmarked}
 use Rattle.docket.proofs.Ties.{no_step, long_numbers, number_at, rank_at}
