@@ -7,3 +7,4 @@ pub mod docket;
 mod entry;
 mod ledger;
 pub mod slot;
+mod step;

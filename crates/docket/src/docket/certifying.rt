@@ -5,7 +5,6 @@ ghost use Rattle.docket.specs.Tied.{certifying, writing};
 
 use crate::buffers::Buffers;
 use crate::docket::Docket;
-use crate::ledger::sums::{missing, sum_up, write_instants, write_latenesses, write_ranks};
 use calls::certificate::Certificate;
 use calls::fault::DocketFault;
 use holder::holder::Holder;
@@ -21,15 +20,15 @@ impl<H: Holder> Docket<H> {
     {
         let placed = self.ledger.placed;
         let needed = self.ledger.count;
-        if let Some(unplaced) = missing(&self.ledger) {
+        if let Some(unplaced) = self.ledger.missing() {
             return Err(DocketFault::StepsMissing { placed, unplaced });
         }
         if buffers.is_too_short(needed as usize) {
             return Err(DocketFault::BufferTooShort { needed });
         }
-        write_ranks(&self.ledger, buffers.ranks);
-        write_instants(&self.ledger, buffers.instants);
-        write_latenesses(&self.ledger, buffers.latenesses);
-        Ok(sum_up(&self.ledger))
+        self.ledger.write_ranks(buffers.ranks);
+        self.ledger.write_instants(buffers.instants);
+        self.ledger.write_latenesses(buffers.latenesses);
+        Ok(self.ledger.sum_up())
     }
 }

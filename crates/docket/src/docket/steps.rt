@@ -1,16 +1,41 @@
 // The calls that place steps and take them back.
 ghost use Rattle.std.specs.Prelude.{◌≡◌, false, is_ok};
 ghost use Rattle.calls.specs.Faults.{code_of};
-ghost use Rattle.calls.specs.Rules.{joined, lift_answer, without_last};
+ghost use Rattle.calls.specs.Rules.{joined, lift_answer, lowest, without_last};
+ghost use Rattle.docket.specs.Kept.{entry_of};
+ghost use Rattle.docket.specs.Moves.{rank_found, waits, judged};
 ghost use Rattle.docket.specs.Tied.{ops_in, steps_in, bound_in, placing, running};
 
 use crate::docket::Docket;
-use crate::docket::parts::{judge, move_latenesses, replay, step};
-use crate::ledger::books::{mark, unmark};
+use crate::docket::parts::{change_latenesses, rank_of, step};
 use calls::fault::{DocketFault, RefusalCode};
 use holder::holder::Holder;
 
 impl<H: Holder> Docket<H> {
+    // What placing the operation is answered: the rules in their order.
+    fn judge(&self, operation: u16) -> Result<u16, DocketFault>
+        ensures { result ≡ judged self.now.ledger.placed self.now.ledger.count operation self.now.ledger.k (entry_of self.now.ledger.entries operation).placed (lowest (waits self.now.ledger.entries (entry_of self.now.ledger.entries operation).paired.start) 0 self.now.ledger.count) (rank_found (entry_of self.now.ledger.entries operation).paired.deed (H.Holder.giving self.now.holder)) }
+    {
+        let ledger = &self.ledger;
+        let placed = ledger.placed;
+        if operation >= ledger.count {
+            return Err(DocketFault::NoSuchOperation { placed });
+        }
+        let entry = ledger.entries[operation as usize];
+        if entry.placed {
+            return Err(DocketFault::PlacedAlready { placed });
+        }
+        if let Some(waiting) = ledger.waiting(entry.paired.start) {
+            return Err(DocketFault::TooEarly { placed, waiting });
+        }
+        let found = rank_of(&self.holder, entry.paired.deed);
+        let rank_error = found.ok_or(DocketFault::NotHeld { placed })?;
+        if rank_error > ledger.k {
+            return Err(DocketFault::AboveBound { placed, rank_error });
+        }
+        Ok(rank_error)
+    }
+
     // Places the operation as the next step, and answers its rank error. Refused, it changes nothing.
     pub fn place(&mut self, operation: u16) -> Result<u16, DocketFault>
         ensures answer { result ≡ placing H.Holder self.old operation }
@@ -19,11 +44,13 @@ impl<H: Holder> Docket<H> {
         ensures bound { bound_in self.new ≡ bound_in self.old }
         ensures refused { is_ok result ≡ false → self.new ≡ self.old }
     {
-        let rank = judge(&self.holder, &self.ledger, operation)?;
+        let rank = self.judge(operation)?;
         let deed = self.ledger.entries[operation as usize].paired.deed;
-        move_latenesses(&self.holder, &mut self.ledger.entries, rank, true);
+        change_latenesses(&self.holder, &mut self.ledger.entries, rank, |late| {
+            late.saturating_add(1)
+        });
         step(&mut self.holder, operation, deed);
-        mark(&mut self.ledger, operation, rank);
+        self.ledger.mark(operation, rank);
         Ok(rank)
     }
 
@@ -68,9 +95,11 @@ impl<H: Holder> Docket<H> {
         if self.ledger.placed == 0 {
             return Err(DocketFault::NothingToLift);
         }
-        let (x, rank) = unmark(&mut self.ledger);
-        replay(&mut self.holder, &self.ledger);
-        move_latenesses(&self.holder, &mut self.ledger.entries, rank, false);
-        Ok(x)
+        let last = self.ledger.unmark();
+        self.ledger.replay(&mut self.holder);
+        change_latenesses(&self.holder, &mut self.ledger.entries, last.rank, |late| {
+            late.saturating_sub(1)
+        });
+        Ok(last.operation)
     }
 }
