@@ -4,25 +4,25 @@ ghost use Rattle.calls.specs.Faults.{docket_refusal, code_of};
 
 use refusal::{Layer, Refusal};
 
-// Why a call was refused. Where a step was refused, or steps are missing, the first number is how many are placed.
+// Why a call was refused, with how many steps are placed where a step was refused or steps are missing.
 #[derive(Clone, Copy, PartialEq, Eq, Debug)]
 pub enum DocketFault {
     // No operation has the number.
-    NoSuchOperation(u16),
+    NoSuchOperation { placed: u16 },
     // The operation is a step already.
-    PlacedAlready(u16),
-    // Operations that precede it are not placed; the second number is the lowest of them.
-    TooEarly(u16, u16),
+    PlacedAlready { placed: u16 },
+    // Operations that precede it are not placed; the lowest of them is named.
+    TooEarly { placed: u16, waiting: u16 },
     // It takes an item that is not held.
-    NotHeld(u16),
-    // Its rank error, the second number, is above the bound.
-    AboveBound(u16, u16),
+    NotHeld { placed: u16 },
+    // Its rank error is above the bound.
+    AboveBound { placed: u16, rank_error: u16 },
     // There is no step to take back.
     NothingToLift,
-    // Some operations are not placed; the second number is the lowest of them.
-    StepsMissing(u16, u16),
-    // A buffer has fewer entries than there are operations; the number is how many there are.
-    BufferTooShort(u16),
+    // Some operations are not placed; the lowest of them is named.
+    StepsMissing { placed: u16, unplaced: u16 },
+    // A buffer has fewer entries than there are operations, which are so many.
+    BufferTooShort { needed: u16 },
 }
 
 // A refusal in plain numbers, as a run answers it: number, place and detail, and all 0 for none.
@@ -33,20 +33,20 @@ pub struct RefusalCode {
     pub detail: u16,
 }
 
-impl DocketFault {
-    // The refusal with its layer, number, place and detail.
-    pub fn refusal(&self) -> Refusal
-        ensures { result ≡ docket_refusal self.now }
-    {
-        let (number, place, detail) = match *self {
-            DocketFault::NoSuchOperation(placed) => (31, placed, 0),
-            DocketFault::PlacedAlready(placed) => (32, placed, 0),
-            DocketFault::TooEarly(placed, waiting) => (33, placed, waiting),
-            DocketFault::NotHeld(placed) => (34, placed, 0),
-            DocketFault::AboveBound(placed, rank_error) => (35, placed, rank_error),
+// The refusal with its layer, number, place and detail.
+impl From<DocketFault> for Refusal {
+    ghost from_gives = { λ fault refusal. refusal ≡ docket_refusal fault };
+
+    fn from(fault: DocketFault) -> Refusal {
+        let (number, place, detail) = match fault {
+            DocketFault::NoSuchOperation { placed } => (31, placed, 0),
+            DocketFault::PlacedAlready { placed } => (32, placed, 0),
+            DocketFault::TooEarly { placed, waiting } => (33, placed, waiting),
+            DocketFault::NotHeld { placed } => (34, placed, 0),
+            DocketFault::AboveBound { placed, rank_error } => (35, placed, rank_error),
             DocketFault::NothingToLift => (36, 0, 0),
-            DocketFault::StepsMissing(placed, unplaced) => (37, placed, unplaced),
-            DocketFault::BufferTooShort(needed) => (38, 0, needed),
+            DocketFault::StepsMissing { placed, unplaced } => (37, placed, unplaced),
+            DocketFault::BufferTooShort { needed } => (38, 0, needed),
         };
         Refusal {
             layer: Layer::Docket,
@@ -57,20 +57,17 @@ impl DocketFault {
     }
 }
 
-impl RefusalCode {
-    // The code of what stopped a run, or of nothing.
-    pub fn of(stopped: Option<DocketFault>) -> RefusalCode
-        ensures { result ≡ code_of stopped }
-    {
-        match stopped {
-            Some(fault) => {
-                let refusal = fault.refusal();
-                RefusalCode {
-                    number: refusal.number,
-                    place: refusal.place,
-                    detail: refusal.detail,
-                }
-            }
+// The code of what stopped a run, or of nothing.
+impl From<Option<DocketFault>> for RefusalCode {
+    ghost from_gives = { λ stopped code. code ≡ code_of stopped };
+
+    fn from(stopped: Option<DocketFault>) -> RefusalCode {
+        match stopped.map(Refusal::from) {
+            Some(refusal) => RefusalCode {
+                number: refusal.number,
+                place: refusal.place,
+                detail: refusal.detail,
+            },
             None => RefusalCode {
                 number: 0,
                 place: 0,

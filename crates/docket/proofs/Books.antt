@@ -1,8 +1,9 @@
 -- A step written down, and taken out again. Assumes nothing.
 use Rattle.std.proofs.Common.{◌≡◌, ℕ, zero, suc, ◌+◌, ◌-◌, ◌<◌, ◌≤◌, Bool, true, false, cond, not, eqb, List, [], ◌∷◌, ◌++◌, length, get_or, take, set, Some, None, Option, sym, refl, ap, ◌∙◌, ⊎_elim, arith}
-use Rattle.std.specs.List.{AllByRecursion}
+use Rattle.std.specs.List.{AllByRecursion, position, position_from}
 use Rattle.std.proofs.lemmas.List.{get_or-take, get_or-set_same, get_or-set_other, length-take-le, take_more, take_more_set}
 use Rattle.std.proofs.ByRecursion.{All-from_get_or}
+use Rattle.std.proofs.lemmas.Iterator.Adapters.{position_from-zero}
 use Rattle.std.proofs.lemmas.Bool.{cases_lt, cases_eq, eqb-true, eq-eqb, ne_eqb, not-false, cond-true, cond-false}
 use Rattle.giving.specs.Lists.{times, Once}
 use Rattle.giving.proofs.Counts.{times_append}
@@ -100,20 +101,20 @@ module _ (ss : List ℕ) (m x : ℕ) (h : 0 < m) (l : m ≤ length ss) (is : x �
       g ∙ flagged y yn ∙ ap (λ (v : ℕ). not (eqb v 0)) t)
       (cases_eq y x)
 
--- ---- the lowest that passes, found in order
-lowest_next : (t : ℕ → Bool) (i m n : ℕ) → n ≡ suc m → lowest t i n ≡ cond (t i) (Some i) (lowest t (suc i) m)
-lowest_next t i m n e = ap (lowest t i) e
+-- ---- the lowest that passes
+lowest_from : (t : ℕ → Bool) (p : Entry → Bool) (es : List Entry) (i : ℕ) → ((k : ℕ) → k < length es → t (i + k) ≡ p (entry_of es k)) → position_from p i es ≡ lowest t i (length es)
+lowest_from t p [] i h = refl
+lowest_from t p (e ∷ es) i h =
+    let z : i ≡ i + 0 = omega arith in
+    let here : p e ≡ t i = sym (ap t z ∙ h 0 (omega arith)) in
+    let n : i + 1 ≡ suc i = omega arith in
+    let next : position_from p (i + 1) es ≡ lowest t (suc i) (length es) =
+    ap (λ (j : ℕ). position_from p j es) n ∙ lowest_from t p es (suc i) (λ k l. let s : suc i + k ≡ i + suc k = omega arith in ap t s ∙ h (suc k) (omega arith)) in
+    ap (λ (b : Bool). cond b (Some i) (position_from p (i + 1) es)) here ∙ ap (λ (o : Option ℕ). cond (t i) (Some i) o) next
 
-pub lowest_here : (t : ℕ → Bool) (i n : ℕ) → i < n → t i ≡ true → lowest t i (n - i) ≡ Some i
-lowest_here t i n h e = lowest_next t i (n - (i + 1)) (n - i) (omega arith) ∙ cond-true (t i) (Some i) (lowest t (suc i) (n - (i + 1))) e
-
-pub lowest_skip : (t : ℕ → Bool) (i n : ℕ) → i < n → t i ≡ false → lowest t i (n - i) ≡ lowest t (i + 1) (n - (i + 1))
-lowest_skip t i n h e =
-    let s : suc i ≡ i + 1 = omega arith in
-    lowest_next t i (n - (i + 1)) (n - i) (omega arith) ∙ cond-false (t i) (Some i) (lowest t (suc i) (n - (i + 1))) e ∙ ap (λ (j : ℕ). lowest t j (n - (i + 1))) s
-
-pub lowest_none : (t : ℕ → Bool) (i n : ℕ) → n ≤ i → lowest t i (n - i) ≡ None
-lowest_none t i n h = let z : n - i ≡ 0 = omega arith in ap (lowest t i) z
+pub lowest_position : (t : ℕ → Bool) (p : Entry → Bool) (es : List Entry) (n : ℕ) → length es ≡ n → ((k : ℕ) → k < n → t k ≡ p (entry_of es k)) → position p es ≡ lowest t 0 n
+lowest_position t p es n e h =
+    position_from-zero p es ∙ lowest_from t p es 0 (λ k l. let z : 0 + k ≡ k = omega arith in ap t z ∙ h k (omega arith)) ∙ ap (lowest t 0) e
 
 pub lowest_ext : (t u : ℕ → Bool) (i n : ℕ) → ((b : ℕ) → b < i + n → t b ≡ u b) → lowest t i n ≡ lowest u i n
 lowest_ext t u i zero h = refl

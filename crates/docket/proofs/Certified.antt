@@ -1,7 +1,7 @@
 -- The certificate of a docket in step. Assumes nothing.
-use Rattle.std.proofs.Common.{◌≡◌, ℕ, ◌+◌, ◌<◌, true, false, cond, not, ◌||◌, eqb, ltb, ◌⊎◌, List, map, length, take, Some, None, Ok, Err, Option, Result, sym, refl, ap, ◌∙◌, ⊎_elim, arith}
+use Rattle.std.proofs.Common.{◌≡◌, ℕ, ◌+◌, ◌<◌, Bool, true, false, cond, not, eqb, List, map, length, take, Some, None, Ok, Err, Option, Result, sym, ap, ◌∙◌, arith}
 use Rattle.std.proofs.lemmas.List.{length-take-le, get_or-take}
-use Rattle.std.proofs.lemmas.Bool.{cond-true, cond-false, lt-ltb, or_left, or_right}
+use Rattle.std.proofs.lemmas.Bool.{cond-true, cond-false}
 use Rattle.calls.specs.declared.certificate.Certificate.{Certificate}
 use Rattle.order.specs.Times.{earliest}
 use Rattle.giving.specs.Lists.{times}
@@ -17,15 +17,6 @@ use Rattle.docket.specs.Moves.{not_placed}
 use Rattle.docket.proofs.Books.{lowest_ext}
 use Rattle.docket.proofs.Ties.{long_steps, long_ops, not_not}
 use Rattle.docket.proofs.Sums.{map_below}
-
-pub too_short : (n r i t : ℕ) → (r < n) ⊎ ((i < n) ⊎ (t < n)) → (ltb r n || (ltb i n || ltb t n)) ≡ true
-too_short n r i t s =
-    ⊎_elim
-    (λ (a : r < n). or_left (ltb r n) (ltb i n || ltb t n) (lt-ltb r n a))
-    (λ (b : (i < n) ⊎ (t < n)).
-    or_right (ltb r n) (ltb i n || ltb t n)
-    (⊎_elim (λ (a : i < n). or_left (ltb i n) (ltb t n) (lt-ltb i n a)) (λ (a : t < n). or_right (ltb i n) (ltb t n) (lt-ltb t n a)) b))
-    s
 
 module _ (seat : SeatRule) (l : Ledger) where
   missing_same : lowest (not_placed l.entries) 0 l.count ≡ missing (ops_of l) (steps_of l)
@@ -53,17 +44,15 @@ module _ (seat : SeatRule) (l : Ledger) where
   pub cert_missing : (b : Buffers) (a : ℕ) → Some a ≡ lowest (not_placed l.entries) 0 l.count → Err (StepsMissing l.placed a) ≡ certify_answer seat (ops_of l) (steps_of l) b
   cert_missing b a e = ap (λ (n : ℕ). Err (StepsMissing n a)) (sym (long_steps l)) ∙ chosen_is b (Some a) e
 
-  short_is : (b : Buffers) → is_too_short (length (ops_of l)) b ≡ (ltb (length b.ranks) l.count || (ltb (length b.instants) l.count || ltb (length b.latenesses) l.count))
-  short_is b = ap (λ (n : ℕ). ltb (length b.ranks) n || (ltb (length b.instants) n || ltb (length b.latenesses) n)) (long_ops l)
+  short_is : (b : Buffers) (v : Bool) → v ≡ is_too_short l.count b → is_too_short (length (ops_of l)) b ≡ v
+  short_is b v s = ap (λ (n : ℕ). is_too_short n b) (long_ops l) ∙ sym s
 
-  pub cert_short : (b : Buffers) → None ≡ lowest (not_placed l.entries) 0 l.count
-      → (ltb (length b.ranks) l.count || (ltb (length b.instants) l.count || ltb (length b.latenesses) l.count)) ≡ true → Err (BufferTooShort l.count) ≡ certify_answer seat (ops_of l) (steps_of l) b
-  cert_short b e s = sym (cond-true _ _ _ (short_is b ∙ s) ∙ ap (λ (n : ℕ). Err (BufferTooShort n)) (long_ops l)) ∙ chosen_is b None e
+  pub cert_short : (b : Buffers) → None ≡ lowest (not_placed l.entries) 0 l.count → true ≡ is_too_short l.count b → Err (BufferTooShort l.count) ≡ certify_answer seat (ops_of l) (steps_of l) b
+  cert_short b e s = sym (cond-true _ _ _ (short_is b true s) ∙ ap (λ (n : ℕ). Err (BufferTooShort n)) (long_ops l)) ∙ chosen_is b None e
 
-  pub cert_ok : (b : Buffers) (c : Certificate) (L : List ℕ) (n : ℕ) → None ≡ lowest (not_placed l.entries) 0 l.count
-      → (ltb (length b.ranks) l.count || (ltb (length b.instants) l.count || ltb (length b.latenesses) l.count)) ≡ false
+  pub cert_ok : (b : Buffers) (c : Certificate) (L : List ℕ) (n : ℕ) → None ≡ lowest (not_placed l.entries) 0 l.count → false ≡ is_too_short l.count b
       → c ≡ summed_up (errors_of l) → InStep seat L n l → Ok c ≡ certify_answer seat (ops_of l) (steps_of l) b
-  cert_ok b c L n e s is i = ap Ok (is ∙ ap summed_up i.errors) ∙ sym (cond-false _ _ _ (short_is b ∙ s)) ∙ chosen_is b None e
+  cert_ok b c L n e s is i = ap Ok (is ∙ ap summed_up i.errors) ∙ sym (cond-false _ _ _ (short_is b false s)) ∙ chosen_is b None e
 
   pub cert_written : (r i t r' i' t' : List ℕ) (c : Certificate) (L : List ℕ) (n : ℕ)
       → r' ≡ over (errors_of l) r → i' ≡ over (earliest (ops_of l) (steps_of l)) i → t' ≡ over (lates_of l) t → InStep seat L n l → three r' i' t' ≡ written seat (ops_of l) (steps_of l) (three r i t) (Ok c)
@@ -71,6 +60,3 @@ module _ (seat : SeatRule) (l : Ledger) where
       ap (λ (v : List ℕ). three v i' t') (re ∙ ap (λ (v : List ℕ). over v r) s.errors)
       ∙ ap (λ (v : List ℕ). three (over (rank_errors seat (ops_of l) (steps_of l)) r) v t') ie
       ∙ ap (λ (v : List ℕ). three (over (rank_errors seat (ops_of l) (steps_of l)) r) (over (earliest (ops_of l) (steps_of l)) i) v) (te ∙ ap (λ (v : List ℕ). over v t) (lates_same L n s))
-
-  pub cert_left : (b : Buffers) (e : DocketFault) → b ≡ written seat (ops_of l) (steps_of l) b (Err e)
-  cert_left b e = refl

@@ -7,7 +7,7 @@ use Rattle.order.specs.declared.operation.Paired.{Paired}
 use Rattle.order.specs.Steps.{SeatRule, giving_after, rank_errors, lateness, adds_in}
 use Rattle.docket.specs.declared.entry.Entry.{Entry}
 use Rattle.docket.specs.declared.ledger.Ledger.{Ledger}
-use Rattle.docket.specs.Kept.{blank, entry_of}
+use Rattle.docket.specs.Kept.{blank, entry_of, numbers_in, ranks_in}
 use Rattle.docket.specs.InStep.{paired_in, ops_of, steps_of, InStep}
 
 pub all_blank : (n x : ℕ) → entry_of (replicate n blank) x ≡ blank
@@ -43,12 +43,12 @@ there qs i l e =
 
 pub opened : (seat : SeatRule) (L : List ℕ) (n : ℕ) (l : Ledger) → L ≡ [] → n ≡ 0 → l.placed ≡ 0 → ((x : ℕ) → (entry_of l.entries x).late ≡ 0) → (steps_of l ≡ []) × InStep seat L n l
 opened seat L n l e z p lates =
-    let s : steps_of l ≡ [] = ap (λ (v : ℕ). take v l.steps) p in (
+    let s : steps_of l ≡ [] = ap (λ (v : ℕ). take v (numbers_in l.steps)) p in (
       s,
       record {
         gives = e ∙ sym (ap (giving_after seat (ops_of l)) s);
         added = z ∙ sym (ap (adds_in (ops_of l)) s);
         lates = λ x h. lates x ∙ sym (ap (lateness seat (ops_of l) x) s);
-        errors = ap (λ (v : ℕ). take v l.ranks) p ∙ sym (ap (rank_errors seat (ops_of l)) s);
+        errors = ap (λ (v : ℕ). take v (ranks_in l.steps)) p ∙ sym (ap (rank_errors seat (ops_of l)) s);
       },
     )

@@ -10,113 +10,112 @@ use Rattle.calls.specs.declared.fault.DocketFault.TheVariants.{NothingToLift}
 use Rattle.calls.specs.Rules.{lift_answer, without_last}
 use Rattle.calls.proofs.Turns.{without_last_is, lift_is}
 use Rattle.docket.specs.declared.entry.Entry.{Entry}
+use Rattle.docket.specs.declared.step.Step.{Step}
 use Rattle.docket.specs.declared.ledger.Ledger.{Ledger}
-use Rattle.docket.specs.Kept.{entry_of}
+use Rattle.docket.specs.Kept.{entry_of, numbers_in, ranks_in}
 use Rattle.docket.specs.InStep.{paired_in, ops_of, steps_of, InStep}
-use Rattle.docket.specs.Moves.{Stand, replayed, moved_by, with_flag, changed_at, changed_all}
+use Rattle.docket.specs.Moves.{Stand, replayed, with_late, one_less, with_flag, changed_at, changed_all}
 use Rattle.docket.proofs.Books.{last_step}
 use Rattle.docket.proofs.Pushes.{ranks_push, lateness_push, held_times}
 use Rattle.docket.proofs.Table.{keeps_one, map_keeps_one, map_keeps_all, late_down}
 use Rattle.docket.proofs.Holds.{replayed_held}
-use Rattle.docket.proofs.Ties.{long_steps, sane}
+use Rattle.docket.proofs.Ties.{long_steps, long_numbers, long_ranks, sane}
 
 none_placed : (l : Ledger) → l.placed ≡ 0 → steps_of l ≡ []
-none_placed l z = ap (λ (n : ℕ). take n l.steps) z
+none_placed l z = ap (λ (n : ℕ). take n (numbers_in l.steps)) z
 
 pub lift_none : (seat : SeatRule) (l : Ledger) → l.placed ≡ 0 → (Err NothingToLift ≡ lift_answer (steps_of l)) × (steps_of l ≡ without_last (steps_of l))
 lift_none seat l z = (sym (ap (lift_answer) (none_placed l z)), none_placed l z ∙ sym (ap without_last (none_placed l z)))
 
-module _ (seat : SeatRule) (l u m : Ledger) (L : List ℕ) (n x r : ℕ)
+-- the last step taken out
+module _ (seat : SeatRule) (l u : Ledger) (x : ℕ)
     (pos : 0 < l.placed)
-    (x-is : x ≡ get_or l.steps (l.placed - 1) 0)
-    (r_is : r ≡ get_or l.ranks (l.placed - 1) 0)
+    (x-is : x ≡ get_or (numbers_in l.steps) (l.placed - 1) 0)
     (u-es : u.entries ≡ changed_at (with_flag false) l.entries x)
     (u-ss : u.steps ≡ l.steps)
-    (u-rs : u.ranks ≡ l.ranks)
     (u-placed : u.placed ≡ l.placed - 1)
-    (u-count : u.count ≡ l.count)
-    (m-es : m.entries ≡ changed_all (moved_by false) u.entries (take r L))
-    (m-ss : m.steps ≡ u.steps)
-    (m-rs : m.ranks ≡ u.ranks)
-    (m-placed : m.placed ≡ u.placed)
-    (m-count : m.count ≡ u.count)
-    (stand : ◌≡◌ {A = Stand} (record { list = L; many = n }) (replayed seat u.entries (record { list = []; many = 0 }) (steps_of u))) where
+    (u-count : u.count ≡ l.count) where
   u_ops : ops_of u ≡ ops_of l
   u_ops =
       ap (λ (v : ℕ). take v (map paired_in u.entries)) u-count
       ∙ ap (take l.count) (ap (map paired_in) u-es ∙ map_keeps_one paired_in (with_flag false) (λ e. refl) l.entries x)
 
-  m_to_u : ops_of m ≡ ops_of u
-  m_to_u =
-      ap (λ (v : ℕ). take v (map paired_in m.entries)) m-count
-      ∙ ap (take u.count) (ap (map paired_in) m-es ∙ map_keeps_all paired_in (moved_by false) (λ e. refl) (take r L) u.entries)
-
-  m_steps : steps_of m ≡ steps_of u
-  m_steps = ap (λ (v : ℕ). take v m.steps) m-placed ∙ ap (take u.placed) m-ss
-
-  u_steps : steps_of u ≡ take (l.placed - 1) l.steps
-  u_steps = ap (λ (v : ℕ). take v u.steps) u-placed ∙ ap (take (l.placed - 1)) u-ss
+  u_steps : steps_of u ≡ take (l.placed - 1) (numbers_in l.steps)
+  u_steps = ap (λ (v : ℕ). take v (numbers_in u.steps)) u-placed ∙ ap (λ (v : List Step). take (l.placed - 1) (numbers_in v)) u-ss
 
   l_steps : steps_of l ≡ steps_of u ++ x ∷ []
-  l_steps = last_step l.steps l.placed x pos (omega arith) x-is ∙ ap (λ (v : List ℕ). v ++ x ∷ []) (sym u_steps)
-
-  pub lifted_ops : ops_of m ≡ ops_of l
-  lifted_ops = m_to_u ∙ u_ops
-
-  pub lifted_steps : steps_of m ≡ without_last (steps_of l)
-  lifted_steps = m_steps ∙ sym (ap without_last l_steps ∙ without_last_is (steps_of u) x)
+  l_steps = last_step (numbers_in l.steps) l.placed x pos (omega (arith, long_numbers l)) x-is ∙ ap (λ (v : List ℕ). v ++ x ∷ []) (sym u_steps)
 
   pub lifted_answer : Ok x ≡ lift_answer (steps_of l)
   lifted_answer = sym (ap (lift_answer) l_steps ∙ lift_is (steps_of u) x)
 
-  stand_is : ◌≡◌ {A = Stand} (record { list = L; many = n }) (record { list = giving_after seat (ops_of u) (steps_of u); many = 0 + adds_in (ops_of u) (steps_of u) })
-  stand_is = stand ∙ replayed_held seat u.entries (ops_of u) (steps_of u) [] 0 (sane u) (λ y. omega (arith, u.once y)) (omega (arith, long_steps u))
+  pub lifted_steps : steps_of u ≡ without_last (steps_of l)
+  lifted_steps = sym (ap without_last l_steps ∙ without_last_is (steps_of u) x)
 
-  l_is : L ≡ giving_after seat (ops_of u) (steps_of u)
-  l_is = ap (λ (s : Stand). s.list) stand_is
+  moved_ops : (es : List Entry) (cs : List ℕ) → es ≡ changed_all (with_late one_less) u.entries cs → take u.count (map paired_in es) ≡ ops_of u
+  moved_ops es cs e = ap (take u.count) (ap (map paired_in) e ∙ map_keeps_all paired_in (with_late one_less) (λ e. refl) cs u.entries)
 
-  n_is : n ≡ adds_in (ops_of u) (steps_of u)
-  n_is = omega (arith, ap (λ (s : Stand). s.many) stand_is)
+  pub lifted_ops : (es : List Entry) (cs : List ℕ) → es ≡ changed_all (with_late one_less) u.entries cs → take u.count (map paired_in es) ≡ ops_of l
+  lifted_ops es cs e = moved_ops es cs e ∙ u_ops
 
-  -- the holder gives what the steps that are left come to, whatever it gave before
-  pub lifted_gives : L ≡ giving_after seat (ops_of m) (steps_of m)
-  lifted_gives = l_is ∙ ap (giving_after seat (ops_of u)) (sym m_steps) ∙ ap (λ (o : List Paired). giving_after seat o (steps_of m)) (sym m_to_u)
+  -- the latenesses moved back, and the holder told the steps that are left
+  module _ (m : Ledger) (L : List ℕ) (n r : ℕ)
+      (r_is : r ≡ get_or (ranks_in l.steps) (l.placed - 1) 0)
+      (m-es : m.entries ≡ changed_all (with_late one_less) u.entries (take r L))
+      (m-ss : m.steps ≡ u.steps)
+      (m-placed : m.placed ≡ u.placed)
+      (m-count : m.count ≡ u.count)
+      (stand : ◌≡◌ {A = Stand} (record { list = L; many = n }) (replayed seat u.entries (record { list = []; many = 0 }) (steps_of u))) where
+    m_to_u : ops_of m ≡ ops_of u
+    m_to_u = ap (λ (v : ℕ). take v (map paired_in m.entries)) m-count ∙ moved_ops m.entries (take r L) m-es
 
-  pub lifted_adds : n ≡ adds_in (ops_of m) (steps_of m)
-  lifted_adds = n_is ∙ ap (adds_in (ops_of u)) (sym m_steps) ∙ ap (λ (o : List Paired). adds_in o (steps_of m)) (sym m_to_u)
+    m_steps : steps_of m ≡ steps_of u
+    m_steps = ap (λ (v : ℕ). take v (numbers_in m.steps)) m-placed ∙ ap (λ (v : List Step). take u.placed (numbers_in v)) m-ss
 
-  module _ (K : List ℕ) (a : ℕ) (i : InStep seat K a l) where
-    ranks_are : (take (l.placed - 1) l.ranks ≡ rank_errors seat (ops_of u) (steps_of u)) × (r ≡ rank_error (operation (ops_of u) x).deed (giving_after seat (ops_of u) (steps_of u)))
-    ranks_are =
-        same_from_push (take (l.placed - 1) l.ranks) (rank_errors seat (ops_of u) (steps_of u)) r (rank_error (operation (ops_of u) x).deed (giving_after seat (ops_of u) (steps_of u)))
-        (sym (last_step l.ranks l.placed r pos (omega arith) r_is) ∙ i.errors ∙ ap (rank_errors seat (ops_of l)) l_steps
-        ∙ ap (λ (o : List Paired). rank_errors seat o (steps_of u ++ x ∷ [])) (sym u_ops) ∙ ranks_push seat (ops_of u) [] (steps_of u) x)
+    stand_is : ◌≡◌ {A = Stand} (record { list = L; many = n }) (record { list = giving_after seat (ops_of u) (steps_of u); many = 0 + adds_in (ops_of u) (steps_of u) })
+    stand_is = stand ∙ replayed_held seat u.entries (ops_of u) (steps_of u) [] 0 (sane u) (λ y. omega (arith, u.once y)) (omega (arith, long_steps u))
 
-    late_is : (y : ℕ) → y < l.count → (entry_of m.entries y).late ≡ lateness seat (ops_of u) y (steps_of u)
-    late_is y yn =
-        let H : List ℕ = giving_after seat (ops_of u) (steps_of u) in
-        let before : (entry_of l.entries y).late ≡ lateness seat (ops_of u) y (steps_of u) + passes_over y (rank_error (operation (ops_of u) x).deed H) H =
-        i.lates y yn ∙ ap (lateness seat (ops_of l) y) l_steps ∙ ap (λ (o : List Paired). lateness seat o y (steps_of u ++ x ∷ [])) (sym u_ops) ∙ lateness_push seat (ops_of u) y [] (steps_of u) x in
-        let same : passes_over y (rank_error (operation (ops_of u) x).deed H) H ≡ passes_over y r L = ap (λ (v : ℕ). passes_over y v H) (sym ranks_are.1) ∙ ap (passes_over y r) (sym l_is) in
-        let one : times y (take r L) ≤ 1 = omega (arith, times_take y r L, ap (times y) l_is, held_times seat (ops_of u) y [] (steps_of u), u.once y) in
-        let hit : passes_over y r L ≡ times y (take r L) = passes_times y r L one in
-        let long : y < length u.entries = omega arith in
-        let kept : (entry_of u.entries y).late ≡ (entry_of l.entries y).late =
-        ap (λ (es : List Entry). (entry_of es y).late) u-es ∙ keeps_one (λ (v : Entry). v.late) (with_flag false) (λ v. refl) l.entries x y in
-        let put : (entry_of m.entries y).late ≡ (entry_of u.entries y).late - times y (take r L) =
-        ap (λ (es : List Entry). (entry_of es y).late) m-es ∙ late_down (take r L) u.entries y long in
-        omega (arith, before, same, hit, kept, put)
+    l_is : L ≡ giving_after seat (ops_of u) (steps_of u)
+    l_is = ap (λ (s : Stand). s.list) stand_is
 
-    pub lifted_in_step : InStep seat L n m
-    lifted_in_step = record {
-      gives = lifted_gives;
-      added = lifted_adds;
-      lates = λ y yn. late_is y (omega (arith, m-count, u-count, yn)) ∙ ap (lateness seat (ops_of u) y) (sym m_steps) ∙ ap (λ (o : List Paired). lateness seat o y (steps_of m)) (sym m_to_u);
-      errors =
-          ap (λ (v : ℕ). take v m.ranks) (m-placed ∙ u-placed) ∙ ap (take (l.placed - 1)) (m-rs ∙ u-rs) ∙ ranks_are.0
-          ∙ ap (rank_errors seat (ops_of u)) (sym m_steps) ∙ ap (λ (o : List Paired). rank_errors seat o (steps_of m)) (sym m_to_u);
-    }
+    n_is : n ≡ adds_in (ops_of u) (steps_of u)
+    n_is = omega (arith, ap (λ (s : Stand). s.many) stand_is)
 
-  -- all of it, for the ledger that a lift leaves
-  pub lifted : (K : List ℕ) (a : ℕ) → (InStep seat K a l → InStep seat L n m) × (Ok x ≡ lift_answer (steps_of l)) × (steps_of m ≡ without_last (steps_of l)) × (ops_of m ≡ ops_of l)
-  lifted K a = (lifted_in_step K a, lifted_answer, lifted_steps, lifted_ops)
+    -- the holder gives what the steps that are left come to, whatever it gave before
+    pub lifted_gives : L ≡ giving_after seat (ops_of m) (steps_of m)
+    lifted_gives = l_is ∙ ap (giving_after seat (ops_of u)) (sym m_steps) ∙ ap (λ (o : List Paired). giving_after seat o (steps_of m)) (sym m_to_u)
+
+    pub lifted_adds : n ≡ adds_in (ops_of m) (steps_of m)
+    lifted_adds = n_is ∙ ap (adds_in (ops_of u)) (sym m_steps) ∙ ap (λ (o : List Paired). adds_in o (steps_of m)) (sym m_to_u)
+
+    module _ (K : List ℕ) (a : ℕ) (i : InStep seat K a l) where
+      ranks_are : (take (l.placed - 1) (ranks_in l.steps) ≡ rank_errors seat (ops_of u) (steps_of u)) × (r ≡ rank_error (operation (ops_of u) x).deed (giving_after seat (ops_of u) (steps_of u)))
+      ranks_are =
+          same_from_push (take (l.placed - 1) (ranks_in l.steps)) (rank_errors seat (ops_of u) (steps_of u)) r (rank_error (operation (ops_of u) x).deed (giving_after seat (ops_of u) (steps_of u)))
+          (sym (last_step (ranks_in l.steps) l.placed r pos (omega (arith, long_ranks l)) r_is) ∙ i.errors ∙ ap (rank_errors seat (ops_of l)) l_steps
+          ∙ ap (λ (o : List Paired). rank_errors seat o (steps_of u ++ x ∷ [])) (sym u_ops) ∙ ranks_push seat (ops_of u) [] (steps_of u) x)
+
+      late_is : (y : ℕ) → y < l.count → (entry_of m.entries y).late ≡ lateness seat (ops_of u) y (steps_of u)
+      late_is y yn =
+          let H : List ℕ = giving_after seat (ops_of u) (steps_of u) in
+          let before : (entry_of l.entries y).late ≡ lateness seat (ops_of u) y (steps_of u) + passes_over y (rank_error (operation (ops_of u) x).deed H) H =
+          i.lates y yn ∙ ap (lateness seat (ops_of l) y) l_steps ∙ ap (λ (o : List Paired). lateness seat o y (steps_of u ++ x ∷ [])) (sym u_ops) ∙ lateness_push seat (ops_of u) y [] (steps_of u) x in
+          let same : passes_over y (rank_error (operation (ops_of u) x).deed H) H ≡ passes_over y r L = ap (λ (v : ℕ). passes_over y v H) (sym ranks_are.1) ∙ ap (passes_over y r) (sym l_is) in
+          let one : times y (take r L) ≤ 1 = omega (arith, times_take y r L, ap (times y) l_is, held_times seat (ops_of u) y [] (steps_of u), u.once y) in
+          let hit : passes_over y r L ≡ times y (take r L) = passes_times y r L one in
+          let long : y < length u.entries = omega arith in
+          let kept : (entry_of u.entries y).late ≡ (entry_of l.entries y).late =
+          ap (λ (es : List Entry). (entry_of es y).late) u-es ∙ keeps_one (λ (v : Entry). v.late) (with_flag false) (λ v. refl) l.entries x y in
+          let put : (entry_of m.entries y).late ≡ (entry_of u.entries y).late - times y (take r L) =
+          ap (λ (es : List Entry). (entry_of es y).late) m-es ∙ late_down (take r L) u.entries y long in
+          omega (arith, before, same, hit, kept, put)
+
+      pub lifted_in_step : InStep seat L n m
+      lifted_in_step = record {
+        gives = lifted_gives;
+        added = lifted_adds;
+        lates = λ y yn. late_is y (omega (arith, m-count, u-count, yn)) ∙ ap (lateness seat (ops_of u) y) (sym m_steps) ∙ ap (λ (o : List Paired). lateness seat o y (steps_of m)) (sym m_to_u);
+        errors =
+            ap (λ (v : ℕ). take v (ranks_in m.steps)) (m-placed ∙ u-placed) ∙ ap (λ (v : List Step). take (l.placed - 1) (ranks_in v)) (m-ss ∙ u-ss) ∙ ranks_are.0
+            ∙ ap (rank_errors seat (ops_of u)) (sym m_steps) ∙ ap (λ (o : List Paired). rank_errors seat o (steps_of m)) (sym m_to_u);
+      }

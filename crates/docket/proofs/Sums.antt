@@ -1,6 +1,6 @@
 -- Buffers written from the front, and what is summed later. Assumes nothing.
-use Rattle.std.proofs.Common.{◌≡◌, ℕ, suc, ◌+◌, ◌<◌, ◌≤◌, max, true, false, eqb, List, [], ◌∷◌, ◌++◌, map, length, get_or, drop, set, sym, refl, ap, ◌∙◌, ⊎_elim, arith}
-use Rattle.std.proofs.lemmas.List.{drop_more, set_at, append_assoc, length_push}
+use Rattle.std.proofs.Common.{◌≡◌, ℕ, suc, ◌+◌, ◌<◌, ◌≤◌, max, true, false, eqb, List, [], ◌∷◌, ◌++◌, map, length, get_or, take, drop, set, sym, refl, ap, ◌∙◌, ⊎_elim, arith}
+use Rattle.std.proofs.lemmas.List.{drop_more, set_at, append_assoc, length_push, length-map, length-take-le, map_more, take_all}
 use Rattle.std.proofs.lemmas.Bool.{cases_lt, cases_Bool, cond-true, cond-false, eq-eqb, ne_eqb, eqb-false}
 use Rattle.order.specs.Times.{earliest_from}
 use Rattle.giving.specs.Lists.{place}
@@ -8,7 +8,9 @@ use Rattle.order.specs.declared.operation.Paired.{Paired}
 use Rattle.order.specs.Steps.{operation, sum}
 use Rattle.calls.specs.Rules.{over, largest_of, numbers_from}
 use Rattle.docket.specs.declared.entry.Entry.{Entry}
+use Rattle.calls.specs.declared.certificate.Certificate.{Certificate}
 use Rattle.docket.specs.Kept.{entry_of}
+use Rattle.docket.specs.InStep.{summed_up}
 
 -- ---- a buffer with one more entry written
 pub over_push : (front buffer : List ℕ) (v : ℕ) → length front < length buffer → set (over front buffer) (length front) v ≡ over (front ++ v ∷ []) buffer
@@ -26,8 +28,15 @@ over_more front next buffer bs i v w n h e is was =
     ap (λ (b : List ℕ). set b i v) was ∙ ap (λ (k : ℕ). set (over front buffer) k v) (sym n) ∙ over_push front buffer v (omega arith)
     ∙ ap (λ (k : ℕ). over (front ++ k ∷ []) buffer) is ∙ ap (λ (f : List ℕ). over f buffer) (sym e)
 
-pub over_none : (buffer : List ℕ) → buffer ≡ over [] buffer
-over_none buffer = refl
+-- the same, of what f says of the elements of a list
+module _ {X : Type 0} (f : X → ℕ) (d : X) (xs : List X) (buffer bs : List ℕ) (i : ℕ) where
+  pub over_map_more : i < length xs → length xs ≤ length buffer → bs ≡ over (map f (take i xs)) buffer → set bs i (f (get_or xs i d)) ≡ over (map f (take (i + 1) xs)) buffer
+  over_map_more h l was =
+      over_more (map f (take i xs)) (map f (take (i + 1) xs)) buffer bs i (f (get_or xs i d)) (f (get_or xs i d))
+      (length-map (take i xs) f ∙ length-take-le i xs (omega arith)) (omega arith) (map_more f xs i d h) refl was
+
+  pub over_map_all : length xs ≤ i → bs ≡ over (map f (take i xs)) buffer → bs ≡ over (map f xs) buffer
+  over_map_all h was = was ∙ ap (λ (ys : List X). over (map f ys) buffer) (take_all i xs h)
 
 -- ---- the least instants
 abbrev pub top : List Paired → ℕ → List ℕ → ℕ
@@ -91,6 +100,11 @@ first_old [] v h = let e : eqb (max v 0) v ≡ true = eq-eqb _ _ (omega arith) i
 first_old (x ∷ xs) v h =
     let e : largest_of (x ∷ xs ++ v ∷ []) ≡ largest_of (x ∷ xs) = omega (arith, largest_push (x ∷ xs) v) in
     ap (λ (m : ℕ). place m (x ∷ xs ++ v ∷ [])) e ∙ first_kept (x ∷ xs) (largest_of (x ∷ xs)) v (largest_in x xs)
+
+pub summed : (rs : List ℕ) (t m f : ℕ) → t ≡ sum rs → m ≡ largest_of rs → f ≡ place (largest_of rs) rs → ◌≡◌ {A = Certificate} (record { total = t; largest = m; first = f }) (summed_up rs)
+summed rs t m f a b c =
+    ap (λ (v : ℕ). record { total = v; largest = m; first = f }) a ∙ ap (λ (v : ℕ). record { total = sum rs; largest = v; first = f }) b
+    ∙ ap (λ (v : ℕ). record { total = sum rs; largest = largest_of rs; first = v }) c
 
 -- ---- the latenesses, as a list over the numbers
 pub map_below : (f : ℕ → ℕ) (F : Entry → ℕ) (i : ℕ) (es : List Entry) → ((x : ℕ) → x < length es → F (entry_of es x) ≡ f (i + x)) → map F es ≡ map f (numbers_from i (length es))

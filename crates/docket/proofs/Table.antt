@@ -8,7 +8,7 @@ use Rattle.order.specs.Steps.{operation}
 use Rattle.docket.specs.declared.entry.Entry.{Entry}
 use Rattle.docket.specs.Kept.{blank, entry_of}
 use Rattle.docket.specs.InStep.{paired_in}
-use Rattle.docket.specs.Moves.{moved_by, changed_at, changed_all}
+use Rattle.docket.specs.Moves.{with_late, one_more, one_less, changed_at, changed_all}
 
 pub op_at : (es : List Entry) (n x : ℕ) → n ≤ length es → x < n → operation (take n (map paired_in es)) x ≡ paired_in (entry_of es x)
 op_at es n x l h = get_or-take n (map paired_in es) x _ h ∙ get_or-map paired_in es x blank _ (omega arith)
@@ -58,32 +58,32 @@ late_here f es c k e h =
 late_there : (f : Entry → Entry) (es : List Entry) (c k : ℕ) → (k ≡ c → ⊥) → (entry_of (changed_at f es c) k).late ≡ (entry_of es k).late
 late_there f es c k e = ap (λ (v : Entry). v.late) (get_or-set_other es c k (f (entry_of es c)) blank e)
 
-pub late_up : (cs : List ℕ) (es : List Entry) (k : ℕ) → k < length es → (entry_of es k).late + times k cs ≤ 65535 → (entry_of (changed_all (moved_by true) es cs) k).late ≡ (entry_of es k).late + times k cs
+pub late_up : (cs : List ℕ) (es : List Entry) (k : ℕ) → k < length es → (entry_of es k).late + times k cs ≤ 65535 → (entry_of (changed_all (with_late one_more) es cs) k).late ≡ (entry_of es k).late + times k cs
 unfolding changed_all
 late_up [] es k h low = omega arith
 late_up (c ∷ cs) es k h low =
-    let n = length-set es c (moved_by true (entry_of es c)) in
+    let n = length-set es c (with_late one_more (entry_of es c)) in
     ⊎_elim
     (λ (e : k ≡ c).
-    let a = late_here (moved_by true) es c k e h in
+    let a = late_here (with_late one_more) es c k e h in
     let t = times_hit k c cs e in
-    omega (arith, a, t, late_up cs (changed_at (moved_by true) es c) k (omega arith) (omega (arith, a, t))))
+    omega (arith, a, t, late_up cs (changed_at (with_late one_more) es c) k (omega arith) (omega (arith, a, t))))
     (λ (e : k ≡ c → ⊥).
-    let a = late_there (moved_by true) es c k e in
+    let a = late_there (with_late one_more) es c k e in
     let t = times_miss k c cs e in
-    omega (arith, a, t, late_up cs (changed_at (moved_by true) es c) k (omega arith) (omega (arith, a, t))))
+    omega (arith, a, t, late_up cs (changed_at (with_late one_more) es c) k (omega arith) (omega (arith, a, t))))
     (cases_eq k c)
 
-pub late_down : (cs : List ℕ) (es : List Entry) (k : ℕ) → k < length es → (entry_of (changed_all (moved_by false) es cs) k).late ≡ (entry_of es k).late - times k cs
+pub late_down : (cs : List ℕ) (es : List Entry) (k : ℕ) → k < length es → (entry_of (changed_all (with_late one_less) es cs) k).late ≡ (entry_of es k).late - times k cs
 unfolding changed_all
 late_down [] es k h = omega arith
 late_down (c ∷ cs) es k h =
-    let n = length-set es c (moved_by false (entry_of es c)) in
+    let n = length-set es c (with_late one_less (entry_of es c)) in
     ⊎_elim
-    (λ (e : k ≡ c). omega (arith, late_here (moved_by false) es c k e h, times_hit k c cs e, late_down cs (changed_at (moved_by false) es c) k (omega arith)))
-    (λ (e : k ≡ c → ⊥). omega (arith, late_there (moved_by false) es c k e, times_miss k c cs e, late_down cs (changed_at (moved_by false) es c) k (omega arith)))
+    (λ (e : k ≡ c). omega (arith, late_here (with_late one_less) es c k e h, times_hit k c cs e, late_down cs (changed_at (with_late one_less) es c) k (omega arith)))
+    (λ (e : k ≡ c → ⊥). omega (arith, late_there (with_late one_less) es c k e, times_miss k c cs e, late_down cs (changed_at (with_late one_less) es c) k (omega arith)))
     (cases_eq k c)
 
 -- moved latenesses leave the flags
-pub flag_kept : (up : Bool) (es fs : List Entry) (cs : List ℕ) (x : ℕ) → fs ≡ changed_all (moved_by up) es cs → (entry_of fs x).placed ≡ (entry_of es x).placed
-flag_kept up es fs cs x e = ap (λ (v : List Entry). (entry_of v x).placed) e ∙ keeps_all (λ (v : Entry). v.placed) (moved_by up) (λ v. refl) cs es x
+pub flag_kept : (f : ℕ → ℕ) (es fs : List Entry) (cs : List ℕ) (x : ℕ) → fs ≡ changed_all (with_late f) es cs → (entry_of fs x).placed ≡ (entry_of es x).placed
+flag_kept f es fs cs x e = ap (λ (v : List Entry). (entry_of v x).placed) e ∙ keeps_all (λ (v : Entry). v.placed) (with_late f) (λ v. refl) cs es x

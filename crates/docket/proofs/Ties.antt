@@ -1,8 +1,11 @@
 -- A docket in step stays in step, and answers by the rules. Assumes nothing.
 use Rattle.std.proofs.Common.{◌≡◌, ℕ, ◌+◌, ◌<◌, ◌≤◌, Bool, true, false, cond, not, ◌&&◌, eqb, ltb, leb, List, [], ◌∷◌, ◌++◌, map, length, get_or, take, set, Some, None, Ok, Err, Option, Result, sym, refl, ap, ◌∙◌, ⊎_elim, arith}
-use Rattle.std.specs.List.{AllByRecursion}
+use Rattle.std.specs.List.{AllByRecursion, position}
+use Rattle.std.proofs.Props.{props}
+use Rattle.holder.specs.declared.holder.Holder.{Ghosts}
+use Rattle.docket.specs.declared.docket.Docket.{Docket}
 use Rattle.std.proofs.ByRecursion.{All-from_get_or}
-use Rattle.std.proofs.lemmas.List.{take_more_set, length-take-le, get_or-take}
+use Rattle.std.proofs.lemmas.List.{take_more_set, length-take-le, length-map, get_or-map, take-map, get_or-take}
 use Rattle.std.proofs.lemmas.Bool.{cases_lt, cases_Bool, le-leb, cond-true, cond-false}
 use Rattle.giving.specs.Lists.{times}
 use Rattle.giving.proofs.Counts.{times_take}
@@ -14,20 +17,75 @@ use Rattle.calls.specs.declared.fault.DocketFault.{DocketFault}
 use Rattle.calls.specs.declared.fault.DocketFault.TheVariants.{NoSuchOperation, PlacedAlready, NotHeld, AboveBound}
 use Rattle.calls.specs.Rules.{lowest, unplaced, waits_for, unless_early, place_answer}
 use Rattle.docket.specs.declared.entry.Entry.{Entry}
+use Rattle.docket.specs.declared.step.Step.{Step}
 use Rattle.docket.specs.declared.ledger.Ledger.{Ledger}
-use Rattle.docket.specs.Kept.{blank, entry_of}
+use Rattle.docket.specs.Kept.{blank, entry_of, numbers_in, ranks_in}
 use Rattle.docket.specs.InStep.{paired_in, ops_of, steps_of, InStep}
-use Rattle.docket.specs.Moves.{Stand, stepped, rank_found, waits, judged, judged_rank, judged_wait, moved_by, with_flag, changed_at, changed_all}
-use Rattle.docket.proofs.Books.{lowest_ext, unflagged, room}
+use Rattle.docket.specs.Moves.{Stand, stepped, rank_found, waits, judged, judged_rank, judged_wait, with_late, one_more, with_flag, changed_at, changed_all}
+use Rattle.docket.proofs.Books.{lowest_position, lowest_ext, unflagged, room}
 use Rattle.docket.proofs.Turns.{judged_in}
 use Rattle.docket.proofs.Pushes.{held_push, ranks_push, lateness_push, lateness_le, held_times, adds_push, adds_le}
 use Rattle.docket.proofs.Table.{op_at, length_ops, keeps_one, map_keeps_one, map_keeps_all, late_up}
 use Rattle.docket.proofs.Holds.{Sane, stepped_after}
 
+-- ---- dockets
+-- a docket whose holder and ledger are those of d is d
+pub same_docket : {X : Type 0} (m : Ghosts X) (d : Docket X m) (t : InStep m.seat (m.giving d.holder) (m.adds d.holder) d.ledger) → ◌≡◌ {A = Docket X m} (record { holder = d.holder; ledger = d.ledger; tied = t }) d
+same_docket m d t =
+    let P : IsProp (InStep m.seat (m.giving d.holder) (m.adds d.holder) d.ledger) = hlevel props in
+    ap (λ (u : InStep m.seat (m.giving d.holder) (m.adds d.holder) d.ledger). record { holder = d.holder; ledger = d.ledger; tied = u }) (P t d.tied)
+
 -- ---- what a ledger says of itself
+-- what stands past the last step
+abbrev pub no_step : Step
+no_step = record { operation = 0; rank = 0 }
+
 module _ (l : Ledger) where
+  pub long_numbers : length (numbers_in l.steps) ≡ 1024
+  long_numbers = length-map l.steps (λ s. s.operation) ∙ l.full.1
+
+  pub long_ranks : length (ranks_in l.steps) ≡ 1024
+  long_ranks = length-map l.steps (λ s. s.rank) ∙ l.full.1
+
   pub long_steps : length (steps_of l) ≡ l.placed
-  long_steps = length-take-le l.placed l.steps (omega arith)
+  long_steps = length-take-le l.placed (numbers_in l.steps) (omega (arith, long_numbers))
+
+  -- an operation that is not flagged is not among the steps, and leaves room for one
+  pub unmarked : (x : ℕ) → x < l.count → (entry_of l.entries x).placed ≡ false → times x (steps_of l) ≡ 0
+  unmarked x h f = unflagged _ _ (l.flagged x h) f
+
+  pub has_room : (x : ℕ) → x < l.count → (entry_of l.entries x).placed ≡ false → l.placed < l.count
+  has_room x h f = room l.count l.placed x (numbers_in l.steps) (omega (arith, long_numbers)) l.known l.once h (unmarked x h f)
+
+  -- the step at a place
+  pub number_at : (i : ℕ) → i < 1024 → (get_or l.steps i no_step).operation ≡ get_or (numbers_in l.steps) i 0
+  number_at i h = sym (get_or-map (λ (s : Step). s.operation) l.steps i no_step 0 (omega arith))
+
+  pub rank_at : (i : ℕ) → i < 1024 → (get_or l.steps i no_step).rank ≡ get_or (ranks_in l.steps) i 0
+  rank_at i h = sym (get_or-map (λ (s : Step). s.rank) l.steps i no_step 0 (omega arith))
+
+  -- the placed steps
+  module _ (order : List Step) (is : order ≡ take l.placed l.steps) where
+    order_numbers : numbers_in order ≡ steps_of l
+    order_numbers = ap numbers_in is ∙ sym (take-map (λ (s : Step). s.operation) l.placed l.steps)
+
+    pub order_ranks : ranks_in order ≡ take l.placed (ranks_in l.steps)
+    order_ranks = ap ranks_in is ∙ sym (take-map (λ (s : Step). s.rank) l.placed l.steps)
+
+    pub order_at : (i : ℕ) → i < l.placed → (get_or order i no_step).operation ≡ get_or (steps_of l) i 0
+    order_at i h =
+        let long : length order ≡ l.placed = ap (length {A = Step}) is ∙ length-take-le l.placed l.steps (omega arith) in
+        sym (get_or-map (λ (s : Step). s.operation) order i no_step 0 (omega arith)) ∙ ap (λ (v : List ℕ). get_or v i 0) order_numbers
+
+    pub order_known : (i : ℕ) → i < l.placed → (get_or order i no_step).operation < l.count
+    order_known i h = omega (arith, order_at i h, get_or-take l.placed (numbers_in l.steps) i 0 h, l.known i h)
+
+  -- the lowest operation whose entry passes a test
+  pub lowest_in_table : (p : Entry → Bool) (table : List Entry) → table ≡ take l.count l.entries → position p table ≡ lowest (λ b. p (entry_of l.entries b)) 0 l.count
+  lowest_in_table p table is =
+      let long : length table ≡ l.count = ap (length {A = Entry}) is ∙ length-take-le l.count l.entries (omega arith) in
+      lowest_position (λ b. p (entry_of l.entries b)) p table l.count long
+      (λ k h. ap p (sym (ap (λ (es : List Entry). entry_of es k) is ∙ get_or-take l.count l.entries k blank h)))
 
   pub op_is : (x : ℕ) → x < l.count → operation (ops_of l) x ≡ paired_in (entry_of l.entries x)
   op_is x h = op_at l.entries l.count x (omega arith) h
@@ -40,7 +98,7 @@ module _ (l : Ledger) where
       All-from_get_or (Sane (λ L c. 0) l.entries (ops_of l)) (steps_of l) 0
       (λ i h.
       let im : i < l.placed = omega (arith, long_steps) in
-      let e = get_or-take l.placed l.steps i 0 im in
+      let e = get_or-take l.placed (numbers_in l.steps) i 0 im in
       let xn : get_or (steps_of l) i 0 < l.count = omega (arith, e, l.known i im) in
       (omega arith, sym (ap (λ (o : Paired). o.deed) (op_is (get_or (steps_of l) i 0) xn))))
 
@@ -149,24 +207,24 @@ judged_rank_is m n x k b w d L v h f e =
 -- ---- a step placed
 module _ (seat : SeatRule) (l m : Ledger) (L : List ℕ) (x r : ℕ)
     (xn : x < l.count) (off : (entry_of l.entries x).placed ≡ false)
-    (es-is : m.entries ≡ changed_at (with_flag true) (changed_all (moved_by true) l.entries (take r L)) x)
-    (ss-is : m.steps ≡ set l.steps l.placed x)
-    (rs-is : m.ranks ≡ set l.ranks l.placed r)
+    (es-is : m.entries ≡ changed_at (with_flag true) (changed_all (with_late one_more) l.entries (take r L)) x)
+    (ss-is : numbers_in m.steps ≡ set (numbers_in l.steps) l.placed x)
+    (rs-is : ranks_in m.steps ≡ set (ranks_in l.steps) l.placed r)
     (placed-is : m.placed ≡ l.placed + 1)
     (count_is : m.count ≡ l.count) where
   new : times x (steps_of l) ≡ 0
-  new = unflagged _ _ (l.flagged x xn) off
+  new = unmarked l x xn off
 
   fits : l.placed < l.count
-  fits = room l.count l.placed x l.steps (omega arith) l.known l.once xn new
+  fits = has_room l x xn off
 
   pub placed_ops : ops_of m ≡ ops_of l
   placed_ops =
       ap (λ (n : ℕ). take n (map paired_in m.entries)) count_is
-      ∙ ap (take l.count) (ap (map paired_in) es-is ∙ map_keeps_one paired_in (with_flag true) (λ e. refl) (changed_all (moved_by true) l.entries (take r L)) x ∙ map_keeps_all paired_in (moved_by true) (λ e. refl) (take r L) l.entries)
+      ∙ ap (take l.count) (ap (map paired_in) es-is ∙ map_keeps_one paired_in (with_flag true) (λ e. refl) (changed_all (with_late one_more) l.entries (take r L)) x ∙ map_keeps_all paired_in (with_late one_more) (λ e. refl) (take r L) l.entries)
 
   pub placed_steps : steps_of m ≡ steps_of l ++ x ∷ []
-  placed_steps = ap (λ (n : ℕ). take n m.steps) placed-is ∙ ap (take (l.placed + 1)) ss-is ∙ take_more_set l.steps l.placed x (omega (arith, fits))
+  placed_steps = ap (λ (n : ℕ). take n (numbers_in m.steps)) placed-is ∙ ap (take (l.placed + 1)) ss-is ∙ take_more_set (numbers_in l.steps) l.placed x (omega (arith, fits, long_numbers l))
 
   module _ (n n' : ℕ) (L' : List ℕ) (i : InStep seat L n l)
       (rank_is : r ≡ rank_error (entry_of l.entries x).paired.deed L)
@@ -199,8 +257,8 @@ module _ (seat : SeatRule) (l m : Ledger) (L : List ℕ) (x r : ℕ)
         let e : passes_over y r L ≡ passes_over y (rank_error d (giving_after seat (ops_of l) (steps_of l))) (giving_after seat (ops_of l) (steps_of l)) =
         ap (λ (v : ℕ). passes_over y v L) r_is ∙ ap (passes_over y (rank_error d (giving_after seat (ops_of l) (steps_of l)))) i.gives in
         let c = lateness_le seat (ops_of l) y [] (steps_of l) in
-        let k : (entry_of m.entries y).late ≡ (get_or (changed_all (moved_by true) l.entries (take r L)) y blank).late =
-        ap (λ (es : List Entry). (entry_of es y).late) es-is ∙ keeps_one (λ (v : Entry). v.late) (with_flag true) (λ v. refl) (changed_all (moved_by true) l.entries (take r L)) x y in
+        let k : (entry_of m.entries y).late ≡ (get_or (changed_all (with_late one_more) l.entries (take r L)) y blank).late =
+        ap (λ (es : List Entry). (entry_of es y).late) es-is ∙ keeps_one (λ (v : Entry). v.late) (with_flag true) (λ v. refl) (changed_all (with_late one_more) l.entries (take r L)) x y in
         let u = late_up (take r L) l.entries y (omega arith) (omega (arith, a, t, c, long_steps l)) in
         omega (arith, k, u, a, b, e, lateness_push seat (ops_of l) y [] (steps_of l) x)
 
@@ -217,7 +275,7 @@ module _ (seat : SeatRule) (l m : Ledger) (L : List ℕ) (x r : ℕ)
           late_is y (omega (arith, count_is, yn))
           ∙ ap (lateness seat (ops_of l) y) (sym placed_steps) ∙ ap (λ (o : List Paired). lateness seat o y (steps_of m)) (sym placed_ops);
       errors =
-          ap (λ (v : ℕ). take v m.ranks) placed-is ∙ ap (take (l.placed + 1)) rs-is ∙ take_more_set l.ranks l.placed r (omega (arith, fits))
+          ap (λ (v : ℕ). take v (ranks_in m.steps)) placed-is ∙ ap (take (l.placed + 1)) rs-is ∙ take_more_set (ranks_in l.steps) l.placed r (omega (arith, fits, long_ranks l))
           ∙ ap (λ (v : List ℕ). v ++ r ∷ []) i.errors ∙ ap (λ (v : ℕ). rank_errors seat (ops_of l) (steps_of l) ++ v ∷ []) r_is
           ∙ sym (ranks_push seat (ops_of l) [] (steps_of l) x)
           ∙ ap (rank_errors seat (ops_of l)) (sym placed_steps) ∙ ap (λ (o : List Paired). rank_errors seat o (steps_of m)) (sym placed_ops);

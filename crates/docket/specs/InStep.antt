@@ -7,7 +7,7 @@ use Rattle.calls.specs.declared.certificate.Certificate.{Certificate}
 use Rattle.calls.specs.Rules.{Buffers, largest_of}
 use Rattle.docket.specs.declared.entry.Entry.{Entry}
 use Rattle.docket.specs.declared.ledger.Ledger.{Ledger}
-use Rattle.docket.specs.Kept.{entry_of}
+use Rattle.docket.specs.Kept.{entry_of, numbers_in, ranks_in}
 
 abbrev pub paired_in : Entry → Paired
 paired_in e = e.paired
@@ -17,14 +17,14 @@ abbrev pub ops_of : Ledger → List Paired
 ops_of l = take l.count (map paired_in l.entries)
 
 abbrev pub steps_of : Ledger → List ℕ
-steps_of l = take l.placed l.steps
+steps_of l = take l.placed (numbers_in l.steps)
 
 -- the holder's giving list L and its count of adds n are what the placed steps give, and so are the latenesses and the rank errors
 pub record InStep (seat : SeatRule) (L : List ℕ) (n : ℕ) (l : Ledger) : Type 0 where
   pub gives : L ≡ giving_after seat (ops_of l) (steps_of l)
   pub added : n ≡ adds_in (ops_of l) (steps_of l)
   pub lates : (x : ℕ) → x < l.count → (entry_of l.entries x).late ≡ lateness seat (ops_of l) x (steps_of l)
-  pub errors : take l.placed l.ranks ≡ rank_errors seat (ops_of l) (steps_of l)
+  pub errors : take l.placed (ranks_in l.steps) ≡ rank_errors seat (ops_of l) (steps_of l)
 
 -- ---- what a certificate is written from
 
@@ -37,7 +37,7 @@ abbrev pub lates_of : Ledger → List ℕ
 lates_of l = map (λ e. e.late) (take l.count l.entries)
 
 abbrev pub errors_of : Ledger → List ℕ
-errors_of l = take l.placed l.ranks
+errors_of l = take l.placed (ranks_in l.steps)
 
 -- the sum of rank errors, the largest, and the first place where it stands
 abbrev pub summed_up : List ℕ → Certificate

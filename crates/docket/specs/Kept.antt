@@ -1,8 +1,9 @@
 -- What every ledger keeps. Assumes nothing.
-use Rattle.std.specs.Prelude.{◌≡◌, ℕ, ◌<◌, ◌≤◌, false, not, List, length, take, slice_index, slice_index_or}
+use Rattle.std.specs.Prelude.{◌≡◌, ℕ, ◌<◌, ◌≤◌, false, not, List, map, length, take, slice_index, slice_index_or}
 use Rattle.order.specs.declared.operation.Deed.TheVariants.{Add}
 use Rattle.calls.specs.Rules.{unplaced}
 use Rattle.docket.specs.declared.entry.Entry.{Entry}
+use Rattle.docket.specs.declared.step.Step.{Step}
 
 -- what stands past the end of the table
 abbrev pub blank : Entry
@@ -12,8 +13,15 @@ blank = record { paired = record { deed = Add; thread = 0; start = 0; end = 0 };
 abbrev pub entry_of : List Entry → ℕ → Entry
 entry_of es x = slice_index_or es x blank
 
-abbrev pub Full : List Entry → List ℕ → List ℕ → Type 0
-Full es ss rs = (length es ≡ 1024) × (length ss ≡ 1024) × (length rs ≡ 1024)
+-- the operations of steps, and their rank errors
+abbrev pub numbers_in : List Step → List ℕ
+numbers_in ss = map (λ s. s.operation) ss
+
+abbrev pub ranks_in : List Step → List ℕ
+ranks_in ss = map (λ s. s.rank) ss
+
+abbrev pub Full : List Entry → List Step → Type 0
+Full es ss = (length es ≡ 1024) × (length ss ≡ 1024)
 
 -- no more steps than operations, and no more operations than entries
 abbrev pub Few : ℕ → ℕ → Type 0

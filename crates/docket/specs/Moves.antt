@@ -56,11 +56,15 @@ unfoldable pub judged : ℕ → ℕ → ℕ → ℕ → Bool → Option ℕ → 
 judged m n x k placed w r = cond (nat_le n x) (Err (NoSuchOperation m)) (cond placed (Err (PlacedAlready m)) (judged_wait m w (judged_rank m k r)))
 
 -- a lateness one higher, or one lower; latenesses have 16 bits
-abbrev pub moved_late : Bool → ℕ → ℕ
-moved_late up n = cond up (min (n + 1) (2 ^ 16 - 1)) (n - 1)
+abbrev pub one_more : ℕ → ℕ
+one_more n = min (n + 1) (2 ^ 16 - 1)
 
-abbrev pub moved_by : Bool → Entry → Entry
-moved_by up e = record { paired = e.paired; late = moved_late up e.late; placed = e.placed }
+abbrev pub one_less : ℕ → ℕ
+one_less n = n - 1
+
+-- an entry with its lateness changed, and with its flag set to b
+abbrev pub with_late : (ℕ → ℕ) → Entry → Entry
+with_late f e = record { paired = e.paired; late = f e.late; placed = e.placed }
 
 abbrev pub with_flag : Bool → Entry → Entry
 with_flag b e = record { paired = e.paired; late = e.late; placed = b }

@@ -10,17 +10,17 @@ use Rattle.docket.specs.declared.docket.Docket.{Docket}
 use Rattle.docket.specs.InStep.{ops_of, steps_of, InStep}
 
 -- the operations, the steps that are placed, and the bound
-abbrev pub ops_in : {X : Type 0} → Docket X → List Paired
+abbrev pub ops_in : {X : Type 0} {m : Ghosts X} → Docket X m → List Paired
 ops_in d = ops_of d.ledger
 
-abbrev pub steps_in : {X : Type 0} → Docket X → List ℕ
+abbrev pub steps_in : {X : Type 0} {m : Ghosts X} → Docket X m → List ℕ
 steps_in d = steps_of d.ledger
 
-abbrev pub bound_in : {X : Type 0} → Docket X → ℕ
+abbrev pub bound_in : {X : Type 0} {m : Ghosts X} → Docket X m → ℕ
 bound_in d = d.ledger.k
 
 -- m has what a kind of holder means: its giving list, its count of adds and its seat rule
-module _ {X : Type 0} (m : Ghosts X) (d : Docket X) where
+module _ {X : Type 0} (m : Ghosts X) (d : Docket X m) where
   -- the holder, the latenesses and the rank errors are what the placed steps give
   abbrev pub Tied : Type 0
   Tied = InStep m.seat (m.giving d.holder) (m.adds d.holder) d.ledger

@@ -6,19 +6,39 @@ ghost use Rattle.calls.specs.Sessions.{Session};
 ghost use Rattle.calls.specs.Laws.{EveryAnswerIsTheRules, NothingElseMakesASession, EveryStepWasAcceptable, PlacingIsJudgedByTheRules, GrantedExactlyWhenTrue, TrueOrdersRunWhole, AnsweredRankErrorsAreShortestStretches, PlacedRankErrorsAreShortestStretches, RankErrorsAddUpToPassingsOver, GrantedCertificatesAreTrue, PlacedOrderKeepsToTime};
 ghost use Rattle.docket.specs.Pairs.{sheet_ops};
 ghost use Rattle.docket.specs.Slots.{Keeps, call_of, reply_of};
-ghost use Rattle.docket.specs.Tied.{Tied, ops_in, steps_in, bound_in, replying, leaving, replying_all, leaving_all};
+ghost use Rattle.docket.specs.InStep.{three};
+ghost use Rattle.docket.specs.Tied.{ops_in, steps_in, bound_in, certifying, writing, replying, leaving, replying_all, leaving_all};
 
+use crate::buffers::Buffers;
 use crate::docket::Docket;
 use crate::slot::Slot;
+use calls::certificate::Certificate;
+use calls::fault::DocketFault;
 use holder::holder::Holder;
 use item::item::Item;
 use sheet::sheet::Sheet;
 
+// Certifies into three slices.
+fn certify_into<H: Holder>(
+    docket: &Docket<H>,
+    ranks: &mut [u16],
+    instants: &mut [u64],
+    latenesses: &mut [u16],
+) -> Result<Certificate, DocketFault>
+    ensures answer { result ≡ certifying H.Holder docket.now (three ranks.old instants.old latenesses.old) }
+    ensures written { three ranks.new instants.new latenesses.new ≡ writing H.Holder docket.now (three ranks.old instants.old latenesses.old) result }
+{
+    docket.certify(&mut Buffers {
+        ranks,
+        instants,
+        latenesses,
+    })
+}
+
 // Attends to one call, and puts the answer into its slot.
 pub fn fill<H: Holder>(docket: &mut Docket<H>, slot: &mut Slot)
-    ensures answer { Tied H.Holder docket.old → reply_of slot.new ≡ replying H.Holder docket.old (call_of slot.old) }
-    ensures tied { Tied H.Holder docket.old → Tied H.Holder docket.new }
-    ensures steps { Tied H.Holder docket.old → steps_in docket.new ≡ leaving H.Holder docket.old (call_of slot.old) }
+    ensures answer { reply_of slot.new ≡ replying H.Holder docket.old (call_of slot.old) }
+    ensures steps { steps_in docket.new ≡ leaving H.Holder docket.old (call_of slot.old) }
     ensures table { ops_in docket.new ≡ ops_in docket.old }
     ensures bound { bound_in docket.new ≡ bound_in docket.old }
     ensures kept { Keeps slot.old slot.new }
@@ -45,16 +65,15 @@ pub fn fill<H: Holder>(docket: &mut Docket<H>, slot: &mut Slot)
             latenesses,
             answer,
         } => {
-            *answer = docket.certify(ranks, instants, latenesses);
+            *answer = certify_into(docket, ranks, instants, latenesses);
         }
     }
 }
 
 // Attends to the calls in turn.
 pub fn attend_all<H: Holder>(docket: &mut Docket<H>, slots: &mut [Slot])
-    ensures answers { Tied H.Holder docket.old → map reply_of slots.new ≡ replying_all H.Holder docket.old (map call_of slots.old) }
-    ensures tied { Tied H.Holder docket.old → Tied H.Holder docket.new }
-    ensures steps { Tied H.Holder docket.old → steps_in docket.new ≡ leaving_all H.Holder docket.old (map call_of slots.old) }
+    ensures answers { map reply_of slots.new ≡ replying_all H.Holder docket.old (map call_of slots.old) }
+    ensures steps { steps_in docket.new ≡ leaving_all H.Holder docket.old (map call_of slots.old) }
     ensures table { ops_in docket.new ≡ ops_in docket.old }
     ensures bound { bound_in docket.new ≡ bound_in docket.old }
     ensures kept { AllZip Keeps slots.old slots.new }
@@ -74,7 +93,6 @@ pub fn attend<'a, H: Holder, I: Item>(
 ) -> Docket<H>
     ensures answers { map reply_of slots.new ≡ answers_for H.Holder.seat (sheet_ops I.Item.number sheet.now) k [] (map call_of slots.old) }
     ensures steps { steps_in result ≡ placed_by H.Holder.seat (sheet_ops I.Item.number sheet.now) k [] (map call_of slots.old) }
-    ensures tied { Tied H.Holder result }
     ensures table { ops_in result ≡ sheet_ops I.Item.number sheet.now }
     ensures bound { bound_in result ≡ k }
     ensures kept { AllZip Keeps slots.old slots.new }

@@ -1,4 +1,6 @@
 // The docket and its calls.
+ghost use Rattle.docket.specs.InStep.{InStep};
+
 use crate::ledger::Ledger;
 use holder::holder::Holder;
 
@@ -12,4 +14,5 @@ mod steps;
 pub struct Docket<H: Holder> {
     holder: H,
     ledger: Ledger,
+    ghost tied: { InStep H.seat (H.giving holder) (H.adds holder) ledger },
 }

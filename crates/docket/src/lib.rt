@@ -2,7 +2,9 @@
 #![tactic(auto)]
 
 pub mod attend;
+pub mod buffers;
 pub mod docket;
 mod entry;
 mod ledger;
 pub mod slot;
+mod step;

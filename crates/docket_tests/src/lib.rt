@@ -21,18 +21,18 @@ mod lists {
     }
 
     // Six operations: three adds, and takes of the third, the first and the second item.
-    pub fn six(number: u16) -> Operation<Ticket> {
+    pub fn six() -> [Operation<Ticket>; 6] {
         let a = Ticket { number: 10 };
         let b = Ticket { number: 11 };
         let c = Ticket { number: 12 };
-        match number {
-            0 => during(Method::Add(a), 0, 10),
-            1 => during(Method::Add(b), 5, 15),
-            2 => during(Method::Add(c), 20, 30),
-            3 => during(Method::Take(c), 40, 50),
-            4 => during(Method::Take(a), 45, 55),
-            _ => during(Method::Take(b), 60, 70),
-        }
+        [
+            during(Method::Add(a), 0, 10),
+            during(Method::Add(b), 5, 15),
+            during(Method::Add(c), 20, 30),
+            during(Method::Take(c), 40, 50),
+            during(Method::Take(a), 45, 55),
+            during(Method::Take(b), 60, 70),
+        ]
     }
 
     pub fn nothing() -> RefusalCode {
@@ -45,106 +45,51 @@ mod lists {
 
     // A run of the order, and a certify with a buffer entry for each of its numbers.
     pub fn examination(order: &[u16], rt: HostRuntime) -> Result<Vec<Slot>, Fail> {
-        let mut numbers = Vec::new(rt.alloc());
-        let mut ranks = Vec::new(rt.alloc());
-        let mut instants = Vec::new(rt.alloc());
-        let mut latenesses = Vec::new(rt.alloc());
-        for x in order {
-            numbers.push(*x)?;
-            ranks.push(9u16)?;
-            instants.push(9u64)?;
-            latenesses.push(9u16)?;
-        }
-        let mut slots = Vec::new(rt.alloc());
-        slots.push(Slot::Run {
-            order: numbers,
+        let run = Slot::Run {
+            order: order.to_vec(rt.alloc())?,
             new: 0,
             stopped: nothing(),
-        })?;
-        slots.push(Slot::Certify {
-            ranks,
-            instants,
-            latenesses,
+        };
+        let certify = Slot::Certify {
+            ranks: vec![in rt.alloc(); 9u16; order.len()]?,
+            instants: vec![in rt.alloc(); 9u64; order.len()]?,
+            latenesses: vec![in rt.alloc(); 9u16; order.len()]?,
             answer: Err(DocketFault::NothingToLift),
-        })?;
-        Ok(slots)
+        };
+        Ok(vec![in rt.alloc(); run, certify]?)
     }
 
     // What stopped the first run.
     pub fn stop_of(slots: &[Slot]) -> Option<RefusalCode> {
-        for slot in slots {
-            if let Slot::Run {
-                order: _,
-                new: _,
-                stopped,
-            } = slot
-            {
-                return Some(*stopped);
-            }
-        }
-        None
+        slots.iter().find_map(|slot| match slot {
+            Slot::Run { stopped, .. } => Some(*stopped),
+            _ => None,
+        })
     }
 
     // The certificate, where one was granted and the buffers are as given.
     pub fn granted(slots: &[Slot], r: &[u16], i: &[u64], l: &[u16]) -> Option<Certificate> {
-        for slot in slots {
-            if let Slot::Certify {
+        slots.iter().find_map(|slot| match slot {
+            Slot::Certify {
                 ranks,
                 instants,
                 latenesses,
-                answer,
-            } = slot
-            {
-                if let Ok(certificate) = *answer {
-                    if same(ranks, r) && same_instants(instants, i) && same(latenesses, l) {
-                        return Some(certificate);
-                    }
-                }
-            }
-        }
-        None
+                answer: Ok(certificate),
+            } if ranks.as_slice() == r && instants.as_slice() == i && latenesses.as_slice() == l =>
+                { Some(*certificate) }
+            _ => None,
+        })
     }
 
     // The certificate, where one was granted, whatever the buffers hold.
     pub fn certificate_of(slots: &[Slot]) -> Option<Certificate> {
-        for slot in slots {
-            if let Slot::Certify {
-                ranks: _,
-                instants: _,
-                latenesses: _,
-                answer,
-            } = slot
-            {
-                if let Ok(certificate) = *answer {
-                    return Some(certificate);
-                }
-            }
-        }
-        None
-    }
-
-    fn same(one: &[u16], other: &[u16]) -> bool {
-        if one.len() != other.len() {
-            return false;
-        }
-        for i in 0..one.len() {
-            if one[i] != other[i] {
-                return false;
-            }
-        }
-        true
-    }
-
-    fn same_instants(one: &[u64], other: &[u64]) -> bool {
-        if one.len() != other.len() {
-            return false;
-        }
-        for i in 0..one.len() {
-            if one[i] != other[i] {
-                return false;
-            }
-        }
-        true
+        slots.iter().find_map(|slot| match slot {
+            Slot::Certify {
+                answer: Ok(certificate),
+                ..
+            } => Some(*certificate),
+            _ => None,
+        })
     }
 }
 
@@ -154,6 +99,8 @@ mod tests {
     use calls::certificate::Certificate;
     use calls::fault::RefusalCode;
     use docket::attend::attend;
+    use docket::slot::Slot;
+    use holder::holder::Holder;
     use holder::queue::Queue;
     use holder::stack::Stack;
     use item::ticket::Ticket;
@@ -177,16 +124,24 @@ mod tests {
         })
     }
 
-    #[test]
-    fn queue_with_bound_two(rt: HostRuntime) -> Result<(), Fail> {
-        let mut memory = [six(0); 6];
+    // What the six operations are answered, examined in their order with that holder and bound.
+    fn examined<H: Holder + Drop>(holder: H, k: u16, rt: HostRuntime) -> Result<Vec<Slot>, Fail> {
+        let mut memory = [six()[0]; 6];
         let mut sheet = Sheet::new(&mut memory);
-        for i in 0..6 {
-            assert!(rt; sheet.enter(six(i)).is_ok());
+        for operation in six() {
+            if sheet.enter(operation).is_err() {
+                return Err(Fail::new("an operation was not entered"));
+            }
         }
         let mut slots = examination(&[0, 1, 2, 3, 4, 5], rt)?;
-        let docket = attend(&sheet, Queue::new(), 2, &mut slots);
+        let docket = attend(&sheet, holder, k, &mut slots);
         drop(docket);
+        Ok(slots)
+    }
+
+    #[test]
+    fn queue_with_bound_two(rt: HostRuntime) -> Result<(), Fail> {
+        let slots = examined(Queue::new(), 2, rt)?;
         assert_eq!(rt; stop_of(&slots), Some(nothing()));
         let written = granted(
             &slots,
@@ -200,28 +155,14 @@ mod tests {
 
     #[test]
     fn queue_with_bound_one(rt: HostRuntime) -> Result<(), Fail> {
-        let mut memory = [six(0); 6];
-        let mut sheet = Sheet::new(&mut memory);
-        for i in 0..6 {
-            assert!(rt; sheet.enter(six(i)).is_ok());
-        }
-        let mut slots = examination(&[0, 1, 2, 3, 4, 5], rt)?;
-        let docket = attend(&sheet, Queue::new(), 1, &mut slots);
-        drop(docket);
+        let slots = examined(Queue::new(), 1, rt)?;
         assert_eq!(rt; stop_of(&slots), refusal(35, 3, 2));
         Ok(())
     }
 
     #[test]
     fn stack_with_bound_one(rt: HostRuntime) -> Result<(), Fail> {
-        let mut memory = [six(0); 6];
-        let mut sheet = Sheet::new(&mut memory);
-        for i in 0..6 {
-            assert!(rt; sheet.enter(six(i)).is_ok());
-        }
-        let mut slots = examination(&[0, 1, 2, 3, 4, 5], rt)?;
-        let docket = attend(&sheet, Stack::new(), 1, &mut slots);
-        drop(docket);
+        let slots = examined(Stack::new(), 1, rt)?;
         let written = granted(
             &slots,
             &[0, 0, 0, 0, 1, 0],
@@ -234,7 +175,7 @@ mod tests {
 
     // What stops a run of 1,023 adds and a found-empty, all at one instant, and what certificate it gets.
     fn full(k: u16, rt: HostRuntime) -> Result<(Option<RefusalCode>, Option<Certificate>), Fail> {
-        let mut memory = [six(0); 1024];
+        let mut memory = [six()[0]; 1024];
         let mut sheet = Sheet::new(&mut memory);
         let mut order = Vec::new(rt.alloc());
         for i in 0..1023u16 {

@@ -1,10 +1,10 @@
 // The call that certifies the placed order.
 ghost use Rattle.std.specs.Prelude.{◌≡◌};
-ghost use Rattle.docket.specs.InStep.{three};
-ghost use Rattle.docket.specs.Tied.{Tied, certifying, writing};
+ghost use Rattle.docket.specs.Lent.{held, SameSlices};
+ghost use Rattle.docket.specs.Tied.{certifying, writing};
 
+use crate::buffers::Buffers;
 use crate::docket::Docket;
-use crate::ledger::sums::{missing, sum_up, write_instants, write_latenesses, write_ranks};
 use calls::certificate::Certificate;
 use calls::fault::DocketFault;
 use holder::holder::Holder;
@@ -13,25 +13,22 @@ impl<H: Holder> Docket<H> {
     // Where every operation is placed, writes rank errors and instants by step and latenesses by operation over the
     // front of the buffers, and answers the total, the largest and the first step that has it. Refused, it leaves the
     // buffers as they were.
-    pub fn certify(
-        &self,
-        ranks: &mut [u16],
-        instants: &mut [u64],
-        latenesses: &mut [u16],
-    ) -> Result<Certificate, DocketFault>
-        ensures answer { Tied H.Holder self.now → result ≡ certifying H.Holder self.now (three ranks.old instants.old latenesses.old) }
-        ensures written { Tied H.Holder self.now → three ranks.new instants.new latenesses.new ≡ writing H.Holder self.now (three ranks.old instants.old latenesses.old) result }
+    pub fn certify(&self, buffers: &mut Buffers) -> Result<Certificate, DocketFault>
+        ensures answer { result ≡ certifying H.Holder self.now (held buffers.old) }
+        ensures written { held buffers.new ≡ writing H.Holder self.now (held buffers.old) result }
+        ensures lenders { SameSlices buffers.old buffers.new }
     {
-        if let Some(a) = missing(&self.ledger) {
-            return Err(DocketFault::StepsMissing(self.ledger.placed, a));
+        let placed = self.ledger.placed;
+        let needed = self.ledger.count;
+        if let Some(unplaced) = self.ledger.missing() {
+            return Err(DocketFault::StepsMissing { placed, unplaced });
         }
-        let n = self.ledger.count as usize;
-        if ranks.len() < n || instants.len() < n || latenesses.len() < n {
-            return Err(DocketFault::BufferTooShort(self.ledger.count));
+        if buffers.is_too_short(needed as usize) {
+            return Err(DocketFault::BufferTooShort { needed });
         }
-        write_ranks(&self.ledger, ranks);
-        write_instants(&self.ledger, instants);
-        write_latenesses(&self.ledger, latenesses);
-        Ok(sum_up(&self.ledger))
+        self.ledger.write_ranks(buffers.ranks);
+        self.ledger.write_instants(buffers.instants);
+        self.ledger.write_latenesses(buffers.latenesses);
+        Ok(self.ledger.sum_up())
     }
 }

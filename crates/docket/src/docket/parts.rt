@@ -1,14 +1,8 @@
 // The parts of a call: each works on the holder and the table as they stand.
-ghost use Rattle.std.specs.Prelude.{◌≡◌, ℕ, [], length, take};
-ghost use Rattle.calls.specs.Rules.{lowest};
-ghost use Rattle.docket.specs.Kept.{entry_of};
-ghost use Rattle.docket.specs.InStep.{steps_of};
-ghost use Rattle.docket.specs.Moves.{stepped, replayed, rank_found, waits, judged, moved_late, moved_by, changed_all};
+ghost use Rattle.std.specs.Prelude.{◌≡◌, ℕ, length, take};
+ghost use Rattle.docket.specs.Moves.{stepped, rank_found, with_late, changed_all};
 
 use crate::entry::Entry;
-use crate::ledger::Ledger;
-use crate::ledger::books::waiting;
-use calls::fault::DocketFault;
 use holder::holder::Holder;
 use order::operation::Deed;
 
@@ -43,64 +37,21 @@ pub(crate) fn step<H: Holder>(holder: &mut H, x: u16, deed: Deed)
     }
 }
 
-// Clears the holder, and tells it the placed steps again.
-pub(crate) fn replay<H: Holder>(holder: &mut H, ledger: &Ledger)
-    ensures { record { list = H.Holder.giving holder.new; many = H.Holder.adds holder.new } ≡ replayed H.Holder.seat ledger.now.entries (record { list = []; many = 0 }) (steps_of ledger.now) }
+// Changes the lateness of each of the first codes of the giving list, as many as are passed over.
+pub(crate) fn change_latenesses<H: Holder, F: Fn(u16) -> u16>(
+    holder: &H,
+    entries: &mut [Entry],
+    passed: u16,
+    change: F,
+)
+    requires long { length entries.old ≡ 1024 }
+    requires callable { F.IsAlwaysCallable change }
+    ensures { (f : ℕ → ℕ) → ((n r : ℕ) → F.post change n r → r ≡ f n) → entries.new ≡ changed_all (with_late f) entries.old (take passed (H.Holder.giving holder.now)) }
 {
-    holder.clear();
-    for i in 0..ledger.placed {
-        let x = ledger.steps[i as usize];
-        let deed = ledger.entries[x as usize].paired.deed;
-        step(holder, x, deed);
-    }
-}
-
-// A lateness one higher, or one lower.
-pub(crate) fn moved(late: u16, up: bool) -> u16
-    ensures { result ≡ moved_late up late }
-{
-    if up {
-        late.saturating_add(1)
-    } else {
-        late.saturating_sub(1)
-    }
-}
-
-// Moves the lateness of each of the first r codes of the giving list up or down by one.
-pub(crate) fn move_latenesses<H: Holder>(holder: &H, entries: &mut [Entry], r: u16, up: bool)
-    requires { length entries.old ≡ 1024 }
-    ensures { entries.new ≡ changed_all (moved_by up) entries.old (take r (H.Holder.giving holder.now)) }
-{
-    for at in 0..r {
-        if let Ok(code) = holder.at(at) {
-            let late = moved(entries[code as usize].late, up);
-            entries[code as usize].late = late;
-        }
-    }
-}
-
-// What placing the operation is answered: the rules in their order.
-pub(crate) fn judge<H: Holder>(holder: &H, ledger: &Ledger, x: u16) -> Result<u16, DocketFault>
-    ensures { result ≡ judged ledger.now.placed ledger.now.count x ledger.now.k (entry_of ledger.now.entries x).placed (lowest (waits ledger.now.entries (entry_of ledger.now.entries x).paired.start) 0 ledger.now.count) (rank_found (entry_of ledger.now.entries x).paired.deed (H.Holder.giving holder.now)) }
-{
-    if x >= ledger.count {
-        return Err(DocketFault::NoSuchOperation(ledger.placed));
-    }
-    let e = ledger.entries[x as usize];
-    if e.placed {
-        return Err(DocketFault::PlacedAlready(ledger.placed));
-    }
-    if let Some(b) = waiting(ledger, e.paired.start) {
-        return Err(DocketFault::TooEarly(ledger.placed, b));
-    }
-    match rank_of(holder, e.paired.deed) {
-        None => Err(DocketFault::NotHeld(ledger.placed)),
-        Some(r) => {
-            if r > ledger.k {
-                Err(DocketFault::AboveBound(ledger.placed, r))
-            } else {
-                Ok(r)
-            }
+    for place in 0..passed {
+        if let Ok(code) = holder.at(place) {
+            let entry = &mut entries[code as usize];
+            entry.late = change(entry.late);
         }
     }
 }

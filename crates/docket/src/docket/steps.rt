@@ -1,64 +1,92 @@
 // The calls that place steps and take them back.
 ghost use Rattle.std.specs.Prelude.{◌≡◌, false, is_ok};
 ghost use Rattle.calls.specs.Faults.{code_of};
-ghost use Rattle.calls.specs.Rules.{joined, lift_answer, without_last};
-ghost use Rattle.docket.specs.Tied.{Tied, ops_in, steps_in, bound_in, placing, running};
+ghost use Rattle.calls.specs.Rules.{joined, lift_answer, lowest, without_last};
+ghost use Rattle.docket.specs.Kept.{entry_of};
+ghost use Rattle.docket.specs.Moves.{rank_found, waits, judged};
+ghost use Rattle.docket.specs.Tied.{ops_in, steps_in, bound_in, placing, running};
 
 use crate::docket::Docket;
-use crate::docket::parts::{judge, move_latenesses, replay, step};
-use crate::ledger::books::{mark, unmark};
+use crate::docket::parts::{change_latenesses, rank_of, step};
 use calls::fault::{DocketFault, RefusalCode};
 use holder::holder::Holder;
 
 impl<H: Holder> Docket<H> {
+    // What placing the operation is answered: the rules in their order.
+    fn judge(&self, operation: u16) -> Result<u16, DocketFault>
+        ensures { result ≡ judged self.now.ledger.placed self.now.ledger.count operation self.now.ledger.k (entry_of self.now.ledger.entries operation).placed (lowest (waits self.now.ledger.entries (entry_of self.now.ledger.entries operation).paired.start) 0 self.now.ledger.count) (rank_found (entry_of self.now.ledger.entries operation).paired.deed (H.Holder.giving self.now.holder)) }
+    {
+        let ledger = &self.ledger;
+        let placed = ledger.placed;
+        if operation >= ledger.count {
+            return Err(DocketFault::NoSuchOperation { placed });
+        }
+        let entry = ledger.entries[operation as usize];
+        if entry.placed {
+            return Err(DocketFault::PlacedAlready { placed });
+        }
+        if let Some(waiting) = ledger.waiting(entry.paired.start) {
+            return Err(DocketFault::TooEarly { placed, waiting });
+        }
+        let found = rank_of(&self.holder, entry.paired.deed);
+        let rank_error = found.ok_or(DocketFault::NotHeld { placed })?;
+        if rank_error > ledger.k {
+            return Err(DocketFault::AboveBound { placed, rank_error });
+        }
+        Ok(rank_error)
+    }
+
     // Places the operation as the next step, and answers its rank error. Refused, it changes nothing.
     pub fn place(&mut self, operation: u16) -> Result<u16, DocketFault>
-        ensures answer { Tied H.Holder self.old → result ≡ placing H.Holder self.old operation }
-        ensures tied { Tied H.Holder self.old → Tied H.Holder self.new }
+        ensures answer { result ≡ placing H.Holder self.old operation }
         ensures steps { steps_in self.new ≡ joined (steps_in self.old) operation result }
         ensures table { ops_in self.new ≡ ops_in self.old }
         ensures bound { bound_in self.new ≡ bound_in self.old }
         ensures refused { is_ok result ≡ false → self.new ≡ self.old }
     {
-        match judge(&self.holder, &self.ledger, operation) {
-            Err(e) => Err(e),
-            Ok(rank) => {
-                let deed = self.ledger.entries[operation as usize].paired.deed;
-                move_latenesses(&self.holder, &mut self.ledger.entries, rank, true);
-                step(&mut self.holder, operation, deed);
-                mark(&mut self.ledger, operation, rank);
-                Ok(rank)
+        let rank = self.judge(operation)?;
+        let deed = self.ledger.entries[operation as usize].paired.deed;
+        change_latenesses(&self.holder, &mut self.ledger.entries, rank, |late| {
+            late.saturating_add(1)
+        });
+        step(&mut self.holder, operation, deed);
+        self.ledger.mark(operation, rank);
+        Ok(rank)
+    }
+
+    // Places the operations one after another until the first refusal. Answers how many were placed, and that refusal.
+    pub fn place_all(&mut self, order: &[u16]) -> (u16, Option<DocketFault>)
+        ensures count { result.0 ≡ (running H.Holder self.old order.now).new }
+        ensures stopped { result.1 ≡ (running H.Holder self.old order.now).stopped }
+        ensures steps { steps_in self.new ≡ (running H.Holder self.old order.now).steps }
+        ensures table { ops_in self.new ≡ ops_in self.old }
+        ensures bound { bound_in self.new ≡ bound_in self.old }
+    {
+        let mut placed: u16 = 0;
+        for x in order {
+            if let Err(fault) = self.place(*x) {
+                return (placed, Some(fault));
             }
+            placed += 1;
         }
+        (placed, None)
     }
 
     // Places the operations one after another until the first refusal. Answers how many were placed, and that refusal in
     // plain numbers, all 0 for none.
     pub fn run(&mut self, order: &[u16]) -> (u16, RefusalCode)
-        ensures answer { Tied H.Holder self.old → (result.0 ≡ (running H.Holder self.old order.now).new) × (result.1 ≡ code_of (running H.Holder self.old order.now).stopped) }
-        ensures tied { Tied H.Holder self.old → Tied H.Holder self.new }
-        ensures steps { Tied H.Holder self.old → steps_in self.new ≡ (running H.Holder self.old order.now).steps }
+        ensures answer { (result.0 ≡ (running H.Holder self.old order.now).new) × (result.1 ≡ code_of (running H.Holder self.old order.now).stopped) }
+        ensures steps { steps_in self.new ≡ (running H.Holder self.old order.now).steps }
         ensures table { ops_in self.new ≡ ops_in self.old }
         ensures bound { bound_in self.new ≡ bound_in self.old }
     {
-        let mut new: u16 = 0;
-        for x in order {
-            match self.place(*x) {
-                Ok(_) => {
-                    new += 1;
-                }
-                Err(e) => {
-                    return (new, RefusalCode::of(Some(e)));
-                }
-            }
-        }
-        (new, RefusalCode::of(None))
+        let (placed, stopped) = self.place_all(order);
+        (placed, RefusalCode::from(stopped))
     }
 
     // Takes the last step back, and answers its operation; all else is as before that step.
     pub fn lift(&mut self) -> Result<u16, DocketFault>
         ensures answer { result ≡ lift_answer (steps_in self.old) }
-        ensures tied { Tied H.Holder self.old → Tied H.Holder self.new }
         ensures steps { steps_in self.new ≡ without_last (steps_in self.old) }
         ensures table { ops_in self.new ≡ ops_in self.old }
         ensures bound { bound_in self.new ≡ bound_in self.old }
@@ -67,9 +95,11 @@ impl<H: Holder> Docket<H> {
         if self.ledger.placed == 0 {
             return Err(DocketFault::NothingToLift);
         }
-        let (x, rank) = unmark(&mut self.ledger);
-        replay(&mut self.holder, &self.ledger);
-        move_latenesses(&self.holder, &mut self.ledger.entries, rank, false);
-        Ok(x)
+        let last = self.ledger.unmark();
+        self.ledger.replay(&mut self.holder);
+        change_latenesses(&self.holder, &mut self.ledger.entries, last.rank, |late| {
+            late.saturating_sub(1)
+        });
+        Ok(last.operation)
     }
 }

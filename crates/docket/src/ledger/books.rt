@@ -1,62 +1,76 @@
-// Steps written down and taken out again.
-ghost use Rattle.std.specs.Prelude.{◌≡◌, ℕ, ◌+◌, ◌-◌, ◌<◌, true, false, slice_index, slice_set};
-ghost use Rattle.calls.specs.Rules.{lowest};
-ghost use Rattle.docket.specs.Kept.{entry_of};
-ghost use Rattle.docket.specs.Moves.{waits, with_flag, changed_at};
+// Steps written down and taken out again, and told to a holder.
+ghost use Rattle.std.specs.Prelude.{◌≡◌, ℕ, [], ◌+◌, ◌-◌, ◌<◌, true, false, length, take, slice_index, slice_set};
+ghost use Rattle.docket.specs.Kept.{entry_of, numbers_in, ranks_in};
+ghost use Rattle.docket.specs.InStep.{steps_of};
+ghost use Rattle.docket.specs.Moves.{with_flag, changed_at, replayed};
 
+use crate::docket::parts::step;
+use crate::entry::Entry;
 use crate::ledger::Ledger;
+use crate::step::Step;
+use holder::holder::Holder;
 
-// The lowest operation that is not placed and had ended before `start`.
-pub(crate) fn waiting(ledger: &Ledger, start: u64) -> Option<u16>
-    ensures { result ≡ lowest (waits ledger.now.entries start) 0 ledger.now.count }
-{
-    let mut i = 0;
-    loop {
-        if i >= ledger.count {
-            break None;
-        }
-        let e = ledger.entries[i as usize];
-        if !e.placed && e.paired.end < start {
-            break Some(i);
-        }
-        i += 1;
+impl Ledger {
+    // The entries of the operations.
+    pub(crate) fn table(&self) -> &[Entry]
+        ensures entries { result.now ≡ take self.now.count self.now.entries }
+        ensures long { length result.now ≡ self.now.count }
+    {
+        &self.entries[..self.count as usize]
     }
-}
 
-// Writes a new step down, with its rank error.
-pub(crate) fn mark(ledger: &mut Ledger, x: u16, rank: u16)
-    requires within { x < ledger.old.count }
-    requires new { (entry_of ledger.old.entries x).placed ≡ false }
-    ensures entries { ledger.new.entries ≡ changed_at (with_flag true) ledger.old.entries x }
-    ensures steps { ledger.new.steps ≡ slice_set ledger.old.steps ledger.old.placed x }
-    ensures ranks { ledger.new.ranks ≡ slice_set ledger.old.ranks ledger.old.placed rank }
-    ensures placed { ledger.new.placed ≡ ledger.old.placed + 1 }
-    ensures count { ledger.new.count ≡ ledger.old.count }
-    ensures bound { ledger.new.k ≡ ledger.old.k }
-{
-    let n = ledger.placed;
-    ledger.entries[x as usize].placed = true;
-    ledger.steps[n as usize] = x;
-    ledger.ranks[n as usize] = rank;
-    ledger.placed = n + 1;
-}
+    // The placed steps.
+    pub(crate) fn order(&self) -> &[Step]
+        ensures steps { result.now ≡ take self.now.placed self.now.steps }
+        ensures long { length result.now ≡ self.now.placed }
+    {
+        &self.steps[..self.placed as usize]
+    }
 
-// Takes the last step out again, and answers it with its rank error.
-pub(crate) fn unmark(ledger: &mut Ledger) -> (u16, u16)
-    requires { 0 < ledger.old.placed }
-    ensures step { result.0 ≡ slice_index ledger.old.steps (ledger.old.placed - 1) }
-    ensures rank { result.1 ≡ slice_index ledger.old.ranks (ledger.old.placed - 1) }
-    ensures entries { ledger.new.entries ≡ changed_at (with_flag false) ledger.old.entries result.0 }
-    ensures steps { ledger.new.steps ≡ ledger.old.steps }
-    ensures ranks { ledger.new.ranks ≡ ledger.old.ranks }
-    ensures placed { ledger.new.placed ≡ ledger.old.placed - 1 }
-    ensures count { ledger.new.count ≡ ledger.old.count }
-    ensures bound { ledger.new.k ≡ ledger.old.k }
-{
-    let n = ledger.placed - 1;
-    let x = ledger.steps[n as usize];
-    let r = ledger.ranks[n as usize];
-    ledger.entries[x as usize].placed = false;
-    ledger.placed = n;
-    (x, r)
+    // Writes a new step down.
+    pub(crate) fn mark(&mut self, operation: u16, rank: u16)
+        requires within { operation < self.old.count }
+        requires new { (entry_of self.old.entries operation).placed ≡ false }
+        ensures entries { self.new.entries ≡ changed_at (with_flag true) self.old.entries operation }
+        ensures steps { numbers_in self.new.steps ≡ slice_set (numbers_in self.old.steps) self.old.placed operation }
+        ensures ranks { ranks_in self.new.steps ≡ slice_set (ranks_in self.old.steps) self.old.placed rank }
+        ensures placed { self.new.placed ≡ self.old.placed + 1 }
+        ensures count { self.new.count ≡ self.old.count }
+        ensures bound { self.new.k ≡ self.old.k }
+    {
+        let placed = self.placed;
+        self.entries[operation as usize].placed = true;
+        self.steps[placed as usize] = Step { operation, rank };
+        self.placed = placed + 1;
+    }
+
+    // Takes the last step out again, and answers it.
+    pub(crate) fn unmark(&mut self) -> Step
+        requires { 0 < self.old.placed }
+        ensures operation { result.operation ≡ slice_index (numbers_in self.old.steps) (self.old.placed - 1) }
+        ensures rank { result.rank ≡ slice_index (ranks_in self.old.steps) (self.old.placed - 1) }
+        ensures entries { self.new.entries ≡ changed_at (with_flag false) self.old.entries result.operation }
+        ensures steps { self.new.steps ≡ self.old.steps }
+        ensures placed { self.new.placed ≡ self.old.placed - 1 }
+        ensures count { self.new.count ≡ self.old.count }
+        ensures bound { self.new.k ≡ self.old.k }
+    {
+        let placed = self.placed - 1;
+        let last = self.steps[placed as usize];
+        self.entries[last.operation as usize].placed = false;
+        self.placed = placed;
+        last
+    }
+
+    // Clears the holder, and tells it the placed steps.
+    pub(crate) fn replay<H: Holder>(&self, holder: &mut H)
+        ensures { record { list = H.Holder.giving holder.new; many = H.Holder.adds holder.new } ≡ replayed H.Holder.seat self.now.entries (record { list = []; many = 0 }) (steps_of self.now) }
+    {
+        holder.clear();
+        let order = self.order();
+        for placed in order {
+            let deed = self.entries[placed.operation as usize].paired.deed;
+            step(holder, placed.operation, deed);
+        }
+    }
 }

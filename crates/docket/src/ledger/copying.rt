@@ -8,6 +8,7 @@ ghost use Rattle.docket.specs.Kept.{entry_of};
 
 use crate::entry::Entry;
 use crate::ledger::Ledger;
+use crate::step::Step;
 use item::item::Item;
 use order::operation::{Deed, Paired};
 use sheet::operation::Method;
@@ -66,8 +67,10 @@ pub(crate) fn copied<'a, I: Item>(sheet: &Sheet<'a, I>, k: u16) -> Ledger
         entries,
         count: count as u16,
         k,
-        steps: [0; 1024],
-        ranks: [0; 1024],
+        steps: [Step {
+            operation: 0,
+            rank: 0,
+        }; 1024],
         placed: 0,
     }
 }

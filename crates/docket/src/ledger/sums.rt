@@ -1,77 +1,102 @@
-// What a certificate says, read off the ledger.
-ghost use Rattle.std.specs.Prelude.{◌≡◌, ℕ, ◌≤◌, length};
+// What the rules and a certificate read off the ledger.
+ghost use Rattle.std.specs.Prelude.{◌≡◌, ◌<◌, ◌≤◌, not, ◌&&◌, nat_lt, length, position, IfSome};
 ghost use Rattle.order.specs.Times.{earliest};
 ghost use Rattle.calls.specs.Rules.{lowest, over};
-ghost use Rattle.docket.specs.Moves.{not_placed};
+ghost use Rattle.docket.specs.Moves.{waits, not_placed};
 ghost use Rattle.docket.specs.InStep.{ops_of, steps_of, lates_of, errors_of, summed_up};
 
+use crate::entry::Entry;
 use crate::ledger::Ledger;
 use calls::certificate::Certificate;
 
-// The lowest operation that is not placed.
-pub(crate) fn missing(ledger: &Ledger) -> Option<u16>
-    ensures { result ≡ lowest (not_placed ledger.now.entries) 0 ledger.now.count }
+// The first entry that is not placed and had ended before `start`.
+fn first_waiting(table: &[Entry], start: u64) -> Option<usize>
+    ensures within { IfSome result (λ k. k < length table.now) }
+    ensures first { result ≡ position (λ e. not e.placed && nat_lt e.paired.end start) table.now }
 {
-    for i in 0..ledger.count {
-        if !ledger.entries[i as usize].placed {
-            return Some(i);
+    table
+        .iter()
+        .position(|entry| !entry.placed && entry.paired.end < start)
+}
+
+// The first entry that is not placed.
+fn first_unplaced(table: &[Entry]) -> Option<usize>
+    ensures within { IfSome result (λ k. k < length table.now) }
+    ensures first { result ≡ position (λ e. not e.placed) table.now }
+{
+    table.iter().position(|entry| !entry.placed)
+}
+
+impl Ledger {
+    // The lowest operation that is not placed and had ended before `start`.
+    pub(crate) fn waiting(&self, start: u64) -> Option<u16>
+        ensures { result ≡ lowest (waits self.now.entries start) 0 self.now.count }
+    {
+        first_waiting(self.table(), start).map(|number| number as u16)
+    }
+
+    // The lowest operation that is not placed.
+    pub(crate) fn missing(&self) -> Option<u16>
+        ensures { result ≡ lowest (not_placed self.now.entries) 0 self.now.count }
+    {
+        first_unplaced(self.table()).map(|number| number as u16)
+    }
+
+    // Writes the rank errors over the front of the buffer.
+    pub(crate) fn write_ranks(&self, buffer: &mut [u16])
+        requires { self.now.placed ≤ length buffer.old }
+        ensures { buffer.new ≡ over (errors_of self.now) buffer.old }
+    {
+        let order = self.order();
+        for (i, step) in order.iter().enumerate() {
+            buffer[i] = step.rank;
         }
     }
-    None
-}
 
-// Writes the rank errors over the front of the buffer.
-pub(crate) fn write_ranks(ledger: &Ledger, buffer: &mut [u16])
-    requires { ledger.now.placed ≤ length buffer.old }
-    ensures { buffer.new ≡ over (errors_of ledger.now) buffer.old }
-{
-    for i in 0..ledger.placed {
-        buffer[i as usize] = ledger.ranks[i as usize];
-    }
-}
-
-// Writes the earliest instants over the front of the buffer.
-pub(crate) fn write_instants(ledger: &Ledger, buffer: &mut [u64])
-    requires { ledger.now.placed ≤ length buffer.old }
-    ensures { buffer.new ≡ over (earliest (ops_of ledger.now) (steps_of ledger.now)) buffer.old }
-{
-    let mut last: u64 = 0;
-    for i in 0..ledger.placed {
-        let x = ledger.steps[i as usize];
-        let start = ledger.entries[x as usize].paired.start;
-        last = last.max(start);
-        buffer[i as usize] = last;
-    }
-}
-
-// Writes the latenesses of the operations over the front of the buffer.
-pub(crate) fn write_latenesses(ledger: &Ledger, buffer: &mut [u16])
-    requires { ledger.now.count ≤ length buffer.old }
-    ensures { buffer.new ≡ over (lates_of ledger.now) buffer.old }
-{
-    for i in 0..ledger.count {
-        buffer[i as usize] = ledger.entries[i as usize].late;
-    }
-}
-
-// The sum of the rank errors, the largest, and the first step that has it.
-pub(crate) fn sum_up(ledger: &Ledger) -> Certificate
-    ensures { result ≡ summed_up (errors_of ledger.now) }
-{
-    let mut total: u32 = 0;
-    let mut largest: u16 = 0;
-    let mut first: u16 = 0;
-    for i in 0..ledger.placed {
-        let r = ledger.ranks[i as usize];
-        total += r as u32;
-        if r > largest {
-            largest = r;
-            first = i;
+    // Writes the earliest instants over the front of the buffer.
+    pub(crate) fn write_instants(&self, buffer: &mut [u64])
+        requires { self.now.placed ≤ length buffer.old }
+        ensures { buffer.new ≡ over (earliest (ops_of self.now) (steps_of self.now)) buffer.old }
+    {
+        let mut last: u64 = 0;
+        let order = self.order();
+        for (i, step) in order.iter().enumerate() {
+            let start = self.entries[step.operation as usize].paired.start;
+            last = last.max(start);
+            buffer[i] = last;
         }
     }
-    Certificate {
-        total,
-        largest,
-        first,
+
+    // Writes the latenesses of the operations over the front of the buffer.
+    pub(crate) fn write_latenesses(&self, buffer: &mut [u16])
+        requires { self.now.count ≤ length buffer.old }
+        ensures { buffer.new ≡ over (lates_of self.now) buffer.old }
+    {
+        let table = self.table();
+        for (i, entry) in table.iter().enumerate() {
+            buffer[i] = entry.late;
+        }
+    }
+
+    // The sum of the rank errors, the largest, and the first step that has it.
+    pub(crate) fn sum_up(&self) -> Certificate
+        ensures { result ≡ summed_up (errors_of self.now) }
+    {
+        let mut total: u32 = 0;
+        let mut largest: u16 = 0;
+        let mut first: u16 = 0;
+        let order = self.order();
+        for (i, step) in order.iter().enumerate() {
+            total += step.rank as u32;
+            if step.rank > largest {
+                largest = step.rank;
+                first = i as u16;
+            }
+        }
+        Certificate {
+            total,
+            largest,
+            first,
+        }
     }
 }

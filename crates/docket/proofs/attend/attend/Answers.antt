@@ -17,13 +17,12 @@ returns g c =
     let w = opened_all seat c.open-docket.result.ledger ops k cs o.table o.bound o.steps in
     let law = the_law seat ops k cs in
     record {
-      answers = e.answers o.tied ∙ w.0;
-      steps = e.steps o.tied ∙ w.1;
-      tied = e.tied o.tied;
+      answers = e.answers ∙ w.0;
+      steps = e.steps ∙ w.1;
       table = e.table ∙ o.table;
       bound = e.bound ∙ o.bound;
       kept = e.kept;
-      session = met seat ops k cs _ _ (e.answers o.tied ∙ w.0) (e.steps o.tied ∙ w.1);
+      session = met seat ops k cs _ _ (e.answers ∙ w.0) (e.steps ∙ w.1);
       only_session = law.only_session;
       every_answer_is_the_rules = law.rules;
       every_step_was_acceptable = law.acceptable;

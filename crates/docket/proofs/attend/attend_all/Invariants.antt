@@ -2,7 +2,7 @@ use Rattle.std.proofs.Common.{◌≡◌, ℕ, ◌≤◌, ◌++◌, map, get_or, 
 use Rattle.std.specs.List.{AllZip}
 use Rattle.docket.specs.declared.slot.Slot.{Slot}
 use Rattle.calls.specs.Calls.{answers_for, placed_by}
-use Rattle.docket.specs.InStep.{ops_of, steps_of, InStep}
+use Rattle.docket.specs.InStep.{ops_of, steps_of}
 use Rattle.docket.specs.Slots.{Keeps, call_of, reply_of}
 use Rattle.docket.proofs.attend.attend_all.Given as goal
 
@@ -12,7 +12,5 @@ invariant-loop-slot g l =
     × (l.docket.ledger.k ≡ l.initial.docket.ledger.k)
     × AllZip Keeps (take l.slot-index l.initial.slots) (take l.slot-index l.slots)
     × ((k : ℕ) (d : Slot) → l.slot-index ≤ k → get_or l.slots k d ≡ get_or l.initial.slots k d)
-    × (InStep g.H.Holder.seat (g.H.Holder.giving l.initial.docket.holder) (g.H.Holder.adds l.initial.docket.holder) l.initial.docket.ledger
-    → InStep g.H.Holder.seat (g.H.Holder.giving l.docket.holder) (g.H.Holder.adds l.docket.holder) l.docket.ledger
     × (map reply_of (take l.slot-index l.slots) ++ answers_for g.H.Holder.seat (ops_of l.docket.ledger) l.docket.ledger.k (steps_of l.docket.ledger) (map call_of (drop l.slot-index l.initial.slots)) ≡ answers_for g.H.Holder.seat (ops_of l.initial.docket.ledger) l.initial.docket.ledger.k (steps_of l.initial.docket.ledger) (map call_of l.initial.slots))
-    × (placed_by g.H.Holder.seat (ops_of l.docket.ledger) l.docket.ledger.k (steps_of l.docket.ledger) (map call_of (drop l.slot-index l.initial.slots)) ≡ placed_by g.H.Holder.seat (ops_of l.initial.docket.ledger) l.initial.docket.ledger.k (steps_of l.initial.docket.ledger) (map call_of l.initial.slots)))
+    × (placed_by g.H.Holder.seat (ops_of l.docket.ledger) l.docket.ledger.k (steps_of l.docket.ledger) (map call_of (drop l.slot-index l.initial.slots)) ≡ placed_by g.H.Holder.seat (ops_of l.initial.docket.ledger) l.initial.docket.ledger.k (steps_of l.initial.docket.ledger) (map call_of l.initial.slots))

@@ -1,0 +1,33 @@
+use Rattle.std.proofs.Common.{◌≡◌, ℕ, ◌+◌, ◌<◌, true, List, length, take, set, refl, sym, subst, arith, length-set}
+use Rattle.std.proofs.lemmas.List.{map-set}
+use Rattle.giving.specs.Lists.{Once}
+use Rattle.docket.specs.declared.step.Step.{Step}
+use Rattle.docket.specs.Moves.{with_flag, changed_at}
+use Rattle.docket.specs.Kept.{numbers_in, Known, Flagged}
+use Rattle.docket.proofs.Books.{known_marked, once_marked, flagged_marked}
+use Rattle.docket.proofs.Ties.{long_numbers, unmarked, has_room}
+use Rattle.docket.proofs.ledger.Ledger.mark.Goals as goal
+
+pub bounds-self-placed : goal.bounds-self-placed
+bounds-self-placed c = omega (arith, has_room c.args.self.now c.args.operation c.requires.within c.requires.new)
+
+pub invariant_of-self : goal.invariant_of-self
+invariant_of-self c =
+    let l = c.args.self.now in
+    let x = c.args.operation in
+    let z = unmarked l x c.requires.within c.requires.new in
+    let o = has_room l x c.requires.within c.requires.new in
+    let h : l.placed < length (numbers_in l.steps) = omega (arith, long_numbers l) in
+    let s : set (numbers_in l.steps) l.placed x ≡ numbers_in (set l.steps l.placed (record { operation = x; rank = c.args.rank })) = sym (map-set (λ (s : Step). s.operation) l.steps l.placed (record { operation = x; rank = c.args.rank })) in
+    record {
+      full = (simp length-set l.full.0, simp length-set l.full.1);
+      few = (omega arith, l.few.1);
+      known = subst (λ (ss : List ℕ). Known l.count ss (l.placed + 1)) s (known_marked (numbers_in l.steps) l.placed x h l.count l.known c.requires.within);
+      once = subst (λ (ss : List ℕ). Once (take (l.placed + 1) ss)) s (once_marked (numbers_in l.steps) l.placed x h l.once z);
+      flagged = subst (λ (ss : List ℕ). Flagged (changed_at (with_flag true) l.entries x) l.count ss (l.placed + 1)) s (flagged_marked (numbers_in l.steps) l.placed x h l.entries l.count (omega arith) l.flagged);
+    }
+
+pub returns : goal.returns
+returns c =
+    let l = c.args.self.now in
+    record { entries = refl; steps = map-set (λ (s : Step). s.operation) l.steps l.placed _; ranks = map-set (λ (s : Step). s.rank) l.steps l.placed _; placed = refl; count = refl; bound = refl }

@@ -1,0 +1,9 @@
+use Rattle.std.proofs.Common.{◌≡◌, not, ◌&&◌, ltb, ◌∙◌, rules}
+use Rattle.docket.specs.declared.entry.Entry.{Entry}
+use Rattle.docket.proofs.Ties.{lowest_in_table}
+use Rattle.docket.proofs.ledger.Ledger.waiting.Goals as goal
+
+pub returns : goal.returns
+returns c =
+    let same : c.map.result ≡ c.first_waiting.result = search rules in
+    same ∙ c.first_waiting.ensures.first ∙ lowest_in_table c.args.self.now (λ (e : Entry). not e.placed && ltb e.paired.end c.args.start) c.table.result.now c.table.ensures.entries

@@ -1,0 +1,11 @@
+use Rattle.std.proofs.Common.{◌≡◌, take}
+use Rattle.calls.specs.Rules.{over}
+use Rattle.docket.specs.InStep.{ops_of, steps_of}
+use Rattle.order.specs.Times.{earliest}
+use Rattle.docket.proofs.Sums.{top}
+use Rattle.docket.proofs.ledger.Ledger.write_instants.Given as goal
+
+abbrev pub invariant-loop-i : goal.invariant-loop-i
+invariant-loop-i l =
+    (l.buffer ≡ over (earliest (ops_of l.self) (take l.i (steps_of l.self))) l.initial.buffer)
+    × (l.last ≡ top (ops_of l.self) 0 (take l.i (steps_of l.self)))

@@ -1,0 +1,13 @@
+-- Buffers that are lent. Assumes nothing.
+use Rattle.std.specs.Prelude.{◌≡◌}
+use Rattle.calls.specs.Rules.{Buffers}
+use Rattle.docket.specs.declared.buffers.Buffers.{Buffers as Lent}
+use Rattle.docket.specs.InStep.{three}
+
+-- what they hold
+abbrev pub held : Lent → Buffers
+held b = three b.ranks.now b.instants.now b.latenesses.now
+
+-- the slices that c holds are those that b held
+abbrev pub SameSlices : Lent → Lent → Type 0
+SameSlices b c = (c.ranks.ghost_name ≡ b.ranks.ghost_name) × (c.instants.ghost_name ≡ b.instants.ghost_name) × (c.latenesses.ghost_name ≡ b.latenesses.ghost_name)

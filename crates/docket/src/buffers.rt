@@ -1,0 +1,22 @@
+// The memory that a certificate is written into.
+ghost use Rattle.std.specs.Prelude.{◌≡◌};
+ghost use Rattle.calls.specs.Rules.{is_too_short};
+ghost use Rattle.docket.specs.Lent.{held};
+
+// Three buffers that a caller lends: for the rank errors and the earliest instants by step, and for the latenesses by
+// operation.
+#[derive(Drop)]
+pub struct Buffers<'a> {
+    pub ranks: &'a mut [u16],
+    pub instants: &'a mut [u64],
+    pub latenesses: &'a mut [u16],
+}
+
+impl Buffers<'_> {
+    // Whether one of them has fewer entries than needed.
+    pub fn is_too_short(&self, needed: usize) -> bool
+        ensures { result ≡ is_too_short needed (held self.now) }
+    {
+        self.ranks.len() < needed || self.instants.len() < needed || self.latenesses.len() < needed
+    }
+}
