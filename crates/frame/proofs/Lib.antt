@@ -1,2 +1,4 @@
+pub mod KindNumbers
 pub mod HeaderFields
 pub mod OrderNumbers
+pub mod RecordPlaces

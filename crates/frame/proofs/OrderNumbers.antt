@@ -1,9 +1,10 @@
 -- An order's bytes and its numbers determine one another.
-use Rattle.std.proofs.Common.{◌≡◌, ℕ, zero, suc, ◌+◌, ◌-◌, ◌*◌, ◌/◌, ◌<◌, List, [], ◌∷◌, length, get_or, take, drop, Some, refl, ap, ◌∙◌, arith, length-drop, length-take, take_at, drop_at}
-use Rattle.std.proofs.lemmas.List.{drop-drop, take-append-drop, take_rest}
-use Rattle.std.proofs.lemmas.Option.{slice_get-get_or}
+use Rattle.std.proofs.Common.{◌≡◌, ℕ, zero, suc, ◌+◌, ◌-◌, ◌*◌, ◌/◌, ◌≤◌, List, [], ◌∷◌, length, map, take, drop, w16, refl, ap, ◌∙◌, arith, length-drop, length-take, take_at, drop_at}
+use Rattle.std.proofs.lemmas.List.{take-append-drop, take_rest}
+use Rattle.std.specs.Int.{from_be_bytes}
 use Rattle.std.specs.Int.Digits.{number_from_digits}
-use Rattle.std.specs.List.{flat_map, slice_get}
+use Rattle.std.specs.List.{flat_map}
+use Rattle.std.specs.Simd.{first_chunks}
 use Rattle.record.specs.Bytes.{big, Bytes}
 use Rattle.record.proofs.Digits.{length_big, number_big, big_number, bytes_take, bytes_drop}
 use Rattle.frame.specs.Orders.{numbers_of, Small}
@@ -11,6 +12,16 @@ use Rattle.frame.specs.Orders.{numbers_of, Small}
 pub length_numbers : (n : ℕ) (bs : List ℕ) → length (numbers_of n bs) ≡ n
 length_numbers zero bs = refl
 length_numbers (suc n) bs = let e = length_numbers n (drop 2 bs) in omega arith
+
+-- the numbers are those of the pairs of bytes
+pub numbers_of_pairs : (n : ℕ) (bs : List ℕ) → 2 * n ≤ length bs → map (from_be_bytes w16) (first_chunks 2 n bs) ≡ numbers_of n bs
+numbers_of_pairs zero bs h = refl
+numbers_of_pairs (suc n) [] h = absurd (omega arith)
+numbers_of_pairs (suc n) (x ∷ []) h = absurd (omega arith)
+numbers_of_pairs (suc n) (x ∷ y ∷ bs) h =
+    let i = numbers_of_pairs n bs (omega arith) in
+    let e : from_be_bytes w16 (x ∷ y ∷ []) ≡ number_from_digits 256 (x ∷ y ∷ []) = omega arith in
+    cc
 
 pub numbers_there : (xs : List ℕ) → Small xs → numbers_of (length xs) (flat_map (big 2) xs) ≡ xs
 numbers_there [] s = refl
@@ -29,19 +40,6 @@ numbers_back (suc n) bs b l =
     let i = numbers_back n (drop 2 bs) (bytes_drop 2 bs b) (simp length-drop (omega arith)) in
     let t = take-append-drop 2 bs in
     (cc (h.0, i.0, t), (omega (arith, h.1), i.1))
-
--- the number at a place
-pub number_at_place : (n i : ℕ) (bs : List ℕ) → i < n → get_or (numbers_of n bs) i 0 ≡ number_from_digits 256 (take 2 (drop (2 * i) bs))
-number_at_place zero i bs h = absurd (omega arith)
-number_at_place (suc n) zero bs h = refl
-number_at_place (suc n) (suc i) bs h =
-    let e : 2 + 2 * i ≡ 2 * suc i = omega arith in
-    number_at_place n i (drop 2 bs) (omega arith) ∙ ap (λ z. number_from_digits 256 (take 2 z)) (drop-drop (2 * i) 2 bs ∙ ap (λ m. drop m bs) e)
-
-pub nth_number : (n i : ℕ) (bs : List ℕ) → i < n → slice_get (numbers_of n bs) i ≡ Some (number_from_digits 256 (take 2 (drop (2 * i) bs)))
-nth_number n i bs h =
-    let l = length_numbers n bs in
-    slice_get-get_or (numbers_of n bs) i 0 (omega arith) ∙ ap (λ x. Some x) (number_at_place n i bs h)
 
 -- the order is what follows the records
 pub order_after : (bs : List ℕ) (n : ℕ) → length bs ≡ 8 + 26 * n →

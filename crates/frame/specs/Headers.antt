@@ -3,19 +3,24 @@ use Rattle.std.specs.Prelude.{ℕ, ◌+◌, ◌*◌, ◌/◌, ◌%◌, cond, not
 use Rattle.std.specs.Int.Digits.{number_from_digits}
 use Rattle.record.specs.Bytes.{big}
 use Rattle.frame.specs.declared.fault.FrameFault.{FrameFault}
-use Rattle.frame.specs.declared.fault.FrameFault.TheVariants.{Short, Version, Kind, ItemType, SpareBit, Count, Length}
+use Rattle.frame.specs.declared.fault.FrameFault.TheVariants.{Short, Version, ItemType, SpareBit, Count, Length}
 use Rattle.frame.specs.declared.header.Header.{Header}
+use Rattle.frame.specs.declared.kind.Kind.{Kind}
+use Rattle.frame.specs.Kinds.{kind_named}
+
+-- what follows the kind: item type, spare bits, count, k and length
+abbrev pub header_from : ℕ → ℕ → ℕ → ℕ → ℕ → ℕ → Result Kind FrameFault → Result Header FrameFault
+header_from code bytes word count k spare (Err fault) = Err fault
+header_from code bytes word count k spare (Ok kind) =
+    cond (not (word / 16 % 16 == code)) (Err ItemType)
+    (cond (nat_lt 0 (word % 16)) (Err SpareBit)
+    (cond (nat_lt 0 spare) (Err SpareBit)
+    (cond (nat_lt 1024 count) (Err Count) (cond (not (bytes == 8 + 26 * count)) (Err Length) (Ok (record { kind = kind; count = count; k = k }))))))
 
 -- the header of four words of 16 bits, of a trace of that many bytes
 abbrev pub header_of : ℕ → ℕ → ℕ → ℕ → ℕ → ℕ → Result Header FrameFault
 header_of code bytes word count k spare =
-    cond (not (word / 4096 == 1)) (Err Version)
-    (cond (nat_lt 2 (word / 256 % 16)) (Err Kind)
-    (cond (not (word / 16 % 16 == code)) (Err ItemType)
-    (cond (nat_lt 0 (word % 16)) (Err SpareBit)
-    (cond (nat_lt 0 spare) (Err SpareBit)
-    (cond (nat_lt 1024 count) (Err Count)
-    (cond (not (bytes == 8 + 26 * count)) (Err Length) (Ok (record { kind = word / 256 % 16; count = count; k = k }))))))))
+    cond (not (word / 4096 == 1)) (Err Version) (header_from code bytes word count k spare (kind_named (word / 256 % 16)))
 
 -- what the header of a trace says to a reader of the item type with that code
 abbrev pub frame_of : ℕ → List ℕ → Result Header FrameFault

@@ -4,7 +4,7 @@ ghost use Rattle.frame.specs.Faults.{frame_refusal};
 use refusal::{Layer, Refusal};
 
 // Why a header is not that of a trace.
-#[derive(Clone, Copy)]
+#[derive(Clone, Copy, PartialEq, Eq, Debug)]
 pub enum FrameFault {
     // under 8 bytes
     Short,
@@ -22,11 +22,11 @@ pub enum FrameFault {
     Length,
 }
 
-impl FrameFault {
-    pub fn refusal(&self) -> Refusal
-        ensures { result ≡ frame_refusal self.now }
-    {
-        let number = match self {
+impl From<FrameFault> for Refusal {
+    ghost from_gives = { λ fault r. r ≡ frame_refusal fault };
+
+    fn from(fault: FrameFault) -> Refusal {
+        let number = match fault {
             FrameFault::Short => 1,
             FrameFault::Version => 2,
             FrameFault::Kind => 3,

@@ -2,12 +2,13 @@ ghost use Rattle.std.specs.Prelude.{◌≡◌, ℕ, ◌+◌, ◌*◌, ◌≤◌,
 ghost use Rattle.frame.specs.Headers.{frame_of};
 
 use crate::fault::FrameFault;
+use crate::kind::Kind;
 use record::bytes::number_at;
 
 // What the header of a trace says: the kind of strict object, the number of operations and the bound k.
 #[derive(Clone, Copy)]
 pub struct Header {
-    pub kind: u8,
+    pub kind: Kind,
     pub count: u16,
     pub k: u16,
 }
@@ -27,9 +28,7 @@ pub fn read_header(bytes: &[u8], item_type: u8) -> Result<Header, FrameFault>
     if word / 4096 != 1 {
         return Err(FrameFault::Version);
     }
-    if word / 256 % 16 > 2 {
-        return Err(FrameFault::Kind);
-    }
+    let kind = Kind::try_from((word / 256 % 16) as u8)?;
     if word / 16 % 16 != item_type as u64 {
         return Err(FrameFault::ItemType);
     }
@@ -43,7 +42,7 @@ pub fn read_header(bytes: &[u8], item_type: u8) -> Result<Header, FrameFault>
         return Err(FrameFault::Length);
     }
     Ok(Header {
-        kind: (word / 256 % 16) as u8,
+        kind,
         count: count as u16,
         k: k as u16,
     })

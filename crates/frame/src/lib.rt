@@ -3,5 +3,6 @@
 
 pub mod fault;
 pub mod header;
+pub mod kind;
 pub mod order;
 pub mod records;

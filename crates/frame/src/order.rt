@@ -1,8 +1,8 @@
-ghost use Rattle.std.specs.Prelude.{◌≡◌, length, IfOk};
+ghost use Rattle.std.specs.Prelude.{◌≡◌, length, map, IfOk};
+ghost use Rattle.std.specs.Int.{from_be_bytes, w16};
 ghost use Rattle.std.specs.List.{slice_get};
 ghost use Rattle.frame.specs.Orders.{order_of};
 
-use record::bytes::number_at;
 use std::alloc::{AllocError, Global};
 
 // The order of a trace: numbers of 16 bits.
@@ -18,32 +18,34 @@ impl<'a> Order<'a> {
         Order { bytes }
     }
 
+    // The two bytes of each number.
+    fn pairs(&self) -> &'a [[u8; 2]]
+        ensures { map (from_be_bytes w16) result.now ≡ order_of self.now }
+    {
+        self.bytes.as_chunks::<2>().0
+    }
+
     // How many numbers there are.
     pub fn len(&self) -> usize
         ensures { result ≡ length (order_of self.now) }
     {
-        self.bytes.len() / 2
+        self.pairs().len()
     }
 
     // The number at a place, or none.
     pub fn at(&self, i: usize) -> Option<u16>
         ensures { result ≡ slice_get (order_of self.now) i }
     {
-        if i < self.len() {
-            Some(number_at(self.bytes, 2 * i, 2) as u16)
-        } else {
-            None
-        }
+        self.pairs().get(i).map(|pair| u16::from_be_bytes(*pair))
     }
 
     // All the numbers.
     pub fn numbers(&self, heap: Global) -> Result<Vec<u16>, AllocError>
         ensures { IfOk result (λ v. v.items ≡ order_of self.now) }
     {
-        let mut numbers = Vec::new(heap);
-        for i in 0..self.len() {
-            numbers.push(number_at(self.bytes, 2 * i, 2) as u16)?;
-        }
-        Ok(numbers)
+        self.pairs()
+            .iter()
+            .map(|pair| u16::from_be_bytes(*pair))
+            .collect(heap)
     }
 }

@@ -1,6 +1,6 @@
 ghost use Rattle.std.specs.Prelude.{◌≡◌, if◌then◌else◌, Some, None, nat_lt};
 ghost use Rattle.std.specs.Option.{option_map};
-ghost use Rattle.frame.specs.Layout.{record_count, record_at};
+ghost use Rattle.frame.specs.Layout.{record_count, record_at, records_in};
 
 // The bytes of a trace, from which it hands out its records.
 #[derive(Clone, Copy)]
@@ -20,6 +20,14 @@ impl<'a> Trace<'a> {
         ensures { result ≡ record_count self.now.bytes.now }
     {
         self.bytes.len().saturating_sub(8) / 26
+    }
+
+    // The bytes of each record in turn, a part of the trace.
+    pub fn records(&self) -> &'a [[u8; 24]]
+        ensures { result.now ≡ records_in self.now.bytes.now }
+    {
+        let body = &self.bytes[self.bytes.len().min(8)..];
+        &body.as_chunks().0[..self.count()]
     }
 
     // The bytes of the record numbered `i`, a part of the trace, and none past the last.

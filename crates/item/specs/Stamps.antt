@@ -26,4 +26,4 @@ stamp_named n = stamp_of (n / 2 ^ 38) (n / 2 ^ 32 % 64) (n % 2 ^ 32)
 
 -- what stamps mean as items
 abbrev pub stamp_items : Ghosts Stamp
-stamp_items = record { code = 1; number = stamp_number; fit = StampFits; named = stamp_named }
+stamp_items = record { TYPE = 1; number = stamp_number; fit = StampFits; named = stamp_named }

@@ -11,4 +11,4 @@ ticket_named n = cond (nat_lt n (2 ^ 32)) (Ok (record { number = n })) (Err Outs
 
 -- what tickets mean as items
 abbrev pub ticket_items : Ghosts Ticket
-ticket_items = record { code = 0; number = λ x. x.number; fit = λ x. x.number < 2 ^ 32; named = ticket_named }
+ticket_items = record { TYPE = 0; number = λ x. x.number; fit = λ x. x.number < 2 ^ 32; named = ticket_named }

@@ -4,7 +4,7 @@ ghost use Rattle.item.specs.Faults.{item_refusal};
 use refusal::{Layer, Refusal};
 
 // Why a number is no item, or no part of one.
-#[derive(Clone, Copy)]
+#[derive(Clone, Copy, PartialEq, Eq, Debug)]
 pub enum ItemFault {
     // no item of the type has that number
     OutsideType,

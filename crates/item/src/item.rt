@@ -8,8 +8,7 @@ pub trait Item: Copy {
     // the type's own number, from 0 to 15
     const TYPE: u8;
 
-    // that number, where a clause needs it
-    ghost code: { ℕ };
+    ghost TYPE: { ℕ };
 
     // the item number
     ghost number: { Self → ℕ };
@@ -20,13 +19,12 @@ pub trait Item: Copy {
     // the item that a number names, or the fault
     ghost named: { ℕ → Result Self ItemFault };
 
-    // The type's own number, as a value that clauses know.
-    fn type_code() -> u8
-        ensures { result ≡ code };
-
     // Whether two items are the same: exactly when their numbers are equal.
     fn same(&self, other: &Self) -> bool
-        ensures { result ≡ (number self.now == number other.now) };
+        ensures { result ≡ (number self.now == number other.now) }
+    {
+        self.pack() == other.pack()
+    }
 
     // The item number.
     fn pack(&self) -> u64
@@ -38,7 +36,7 @@ pub trait Item: Copy {
         ensures named { result ≡ named n }
         ensures exact { MatchResult result (λ x. (number x ≡ n) × fit x) (λ _. (x : Self) → fit x → number x ≢ n) };
 
-    ghost coded: { code < 16 };
+    ghost coded: { TYPE < 16 };
 
     ghost small: { (x : Self) → fit x → number x < 2 ^ 40 };
 

@@ -4,7 +4,7 @@ ghost use Rattle.item.specs.Lanes.{lane_number, lane_named};
 use crate::fault::ItemFault;
 
 // A lane, from 0 to 63: six single bits, so that every value of the type is a lane.
-#[derive(Clone, Copy)]
+#[derive(Clone, Copy, PartialEq, Eq, Debug)]
 pub struct Lane {
     bit5: bool,
     bit4: bool,
@@ -14,11 +14,13 @@ pub struct Lane {
     bit0: bool,
 }
 
-impl Lane {
-    // The lane of a number, or a refusal above 63.
-    pub fn new(number: u8) -> Result<Lane, ItemFault>
-        ensures { result ≡ lane_named number }
-    {
+// The lane of a number, or a refusal above 63.
+impl TryFrom<u8> for Lane {
+    type Error = ItemFault;
+
+    ghost try_from_gives = { λ n r. r ≡ lane_named n };
+
+    fn try_from(number: u8) -> Result<Lane, ItemFault> {
         if number > 63 {
             return Err(ItemFault::OutsideType);
         }
@@ -31,12 +33,14 @@ impl Lane {
             bit0: number % 2 == 1,
         })
     }
+}
 
-    // The lane's number.
-    pub fn number(&self) -> u8
-        ensures { result ≡ lane_number self.now }
-    {
-        let high = 32 * u8::from(self.bit5) + 16 * u8::from(self.bit4) + 8 * u8::from(self.bit3);
-        high + 4 * u8::from(self.bit2) + 2 * u8::from(self.bit1) + u8::from(self.bit0)
+// The lane's number.
+impl From<Lane> for u8 {
+    ghost from_gives = { λ l r. r ≡ lane_number l };
+
+    fn from(lane: Lane) -> u8 {
+        let high = 32 * u8::from(lane.bit5) + 16 * u8::from(lane.bit4) + 8 * u8::from(lane.bit3);
+        high + 4 * u8::from(lane.bit2) + 2 * u8::from(lane.bit1) + u8::from(lane.bit0)
     }
 }

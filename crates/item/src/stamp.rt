@@ -7,7 +7,7 @@ use crate::item::Item;
 use crate::lane::Lane;
 
 // A stamp: a serial of 32 bits, or a lane with a count of 32 bits.
-#[derive(Clone, Copy)]
+#[derive(Clone, Copy, PartialEq, Eq, Debug)]
 pub enum Stamp {
     Serial(u32),
     InLane(Lane, u32),
@@ -16,7 +16,7 @@ pub enum Stamp {
 impl Item for Stamp {
     const TYPE: u8 = 1;
 
-    ghost code = { 1 };
+    ghost TYPE = { 1 };
 
     ghost number = { stamp_number };
 
@@ -32,33 +32,22 @@ impl Item for Stamp {
 
     ghost back = { stamp_back };
 
-    fn type_code() -> u8 {
-        Self::TYPE
-    }
-
-    fn same(&self, other: &Stamp) -> bool {
-        self.pack() == other.pack()
-    }
-
     fn pack(&self) -> u64 {
         match *self {
-            Stamp::Serial(serial) => serial as u64,
+            Stamp::Serial(serial) => u64::from(serial),
             Stamp::InLane(lane, count) => 0x40_0000_0000
-                + lane.number() as u64 * 0x1_0000_0000
-                + count as u64,
+                + u64::from(u8::from(lane)) * 0x1_0000_0000
+                + u64::from(count),
         }
     }
 
     fn unpack(n: u64) -> Result<Stamp, ItemFault> {
-        let case = n / 0x40_0000_0000;
         let lane = (n / 0x1_0000_0000 % 64) as u8;
         let rest = (n % 0x1_0000_0000) as u32;
-        if case == 0 && lane == 0 {
-            return Ok(Stamp::Serial(rest));
+        match n / 0x40_0000_0000 {
+            0 if lane == 0 => Ok(Stamp::Serial(rest)),
+            1 => Ok(Stamp::InLane(Lane::try_from(lane)?, rest)),
+            _ => Err(ItemFault::OutsideType),
         }
-        if case == 1 {
-            return Ok(Stamp::InLane(Lane::new(lane)?, rest));
-        }
-        Err(ItemFault::OutsideType)
     }
 }

@@ -6,7 +6,7 @@ use crate::fault::ItemFault;
 use crate::item::Item;
 
 // A ticket: a number of 32 bits, which is its own item number.
-#[derive(Clone, Copy)]
+#[derive(Clone, Copy, PartialEq, Eq, Debug)]
 pub struct Ticket {
     pub number: u32,
 }
@@ -14,7 +14,7 @@ pub struct Ticket {
 impl Item for Ticket {
     const TYPE: u8 = 0;
 
-    ghost code = { 0 };
+    ghost TYPE = { 0 };
 
     ghost number = { λ x. x.number };
 
@@ -30,22 +30,13 @@ impl Item for Ticket {
 
     ghost back = { Prim.search rules };
 
-    fn type_code() -> u8 {
-        Self::TYPE
-    }
-
-    fn same(&self, other: &Ticket) -> bool {
-        self.number == other.number
-    }
-
     fn pack(&self) -> u64 {
-        self.number as u64
+        u64::from(self.number)
     }
 
     fn unpack(n: u64) -> Result<Ticket, ItemFault> {
-        if n > 0xffff_ffff {
-            return Err(ItemFault::OutsideType);
-        }
-        Ok(Ticket { number: n as u32 })
+        u32::try_from(n)
+            .map(|number| Ticket { number })
+            .map_err(|_| ItemFault::OutsideType)
     }
 }

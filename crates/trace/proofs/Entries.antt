@@ -3,6 +3,7 @@ use Rattle.std.proofs.Common.{◌≡◌, ℕ, ◌+◌, ◌<◌, ◌≤◌, Bool,
 use mathlib.Core.Bool.{Bool-set}
 use mathlib.Core.Logic.{∥∥₁_elim}
 use Rattle.std.proofs.lemmas.List.{length_push}
+use Rattle.std.proofs.lemmas.Bool.{and_parts}
 use Rattle.std.proofs.lemmas.Bool.Decides.{nat_tests}
 use Rattle.refusal.proofs.Checks.{pass}
 use Rattle.item.specs.declared.item.Item.{Ghosts}
@@ -17,10 +18,6 @@ use Rattle.sheet.specs.Entering.{enter_answer, unless_repeated}
 use Rattle.sheet.proofs.Entries.{enter_back, enter_number}
 use Rattle.record.specs.Records.{Fit, FitMethod}
 use Rattle.trace.specs.Contents.{AllFit}
-
-both_true : (a b : Bool) → (a && b) ≡ true → (a ≡ true) × (b ≡ true)
-both_true true b p = (refl, p)
-both_true false b p = let z : ◌≡◌ {A = ℕ} 0 1 = cc in absurd (omega arith)
 
 was_ok : {A E : Type 0} (r : Result A E) → is_ok r ≡ true → (x : A) × (r ≡ Ok x)
 was_ok (Ok x) e = (x, refl)
@@ -120,7 +117,7 @@ module _ {I : Type 0} (t : Ghosts I) where
     unfolding stands
     enters_again room os [] a e = tt
     enters_again room os (op ∷ ops) a e =
-        let b = both_true (is_ok (enter_answer t.number room os op)) (stands room (os ++ op ∷ []) ops) e in
+        let b = and_parts (is_ok (enter_answer t.number room os op)) (stands room (os ++ op ∷ []) ops) e in
         let w = was_ok (enter_answer t.number room os op) b.0 in
         (a.0, enter_number t.number room w.0 os op w.1, enters_again room (os ++ op ∷ []) ops a.1 b.1)
 

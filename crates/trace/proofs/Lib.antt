@@ -1,4 +1,5 @@
 mod Entries
+mod Refills
 mod Runs
 pub mod Readings
 mod Writes

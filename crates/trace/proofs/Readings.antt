@@ -13,6 +13,7 @@ use Rattle.frame.specs.declared.fault.FrameFault.{FrameFault}
 use Rattle.frame.specs.declared.header.Header.{Header}
 use Rattle.frame.specs.Layout.{record_count}
 use Rattle.frame.specs.Headers.{frame_of, bytes_of_header}
+use Rattle.frame.specs.Kinds.{kind_number}
 use Rattle.frame.specs.Orders.{numbers_of}
 use Rattle.trace.specs.Contents.{Contents, contents, encode, Sound}
 use Rattle.trace.specs.declared.fault.ReadFault.{ReadFault}
@@ -21,6 +22,7 @@ use Rattle.trace.specs.Answers.{Said, said, saying_of, shown, answered, held, co
 use Rattle.trace.specs.Reading.{Run, Outcome, run, ended, framed, reading}
 use Rattle.trace.specs.Reading.Run.{going, stopped}
 use Rattle.trace.specs.Reading.Outcome.{unread, refused, accepted}
+use Rattle.frame.proofs.KindNumbers.{kind_of, number_small}
 use Rattle.frame.proofs.HeaderFields.{length_header, frame_there, frame_back}
 use Rattle.frame.proofs.OrderNumbers.{numbers_there, numbers_back, length_numbers}
 use Rattle.trace.proofs.Entries.{fits_of, consistent_of, place_of, enters_of}
@@ -28,7 +30,7 @@ use Rattle.trace.proofs.Runs.{length_joined, run_back, run_there}
 
 pub length_encode : {I : Type 0} (t : Ghosts I) (c : Contents I) → length c.order ≡ length c.ops → length (encode t c) ≡ 8 + 26 * length c.ops
 length_encode t c e =
-    let a = length_header t.code c.kind (length c.ops) c.k in
+    let a = length_header t.TYPE c.kind (length c.ops) c.k in
     let r = length_joined (encode_record t) 24 (length_record t) c.ops in
     let o = length_joined (big 2) 2 (length_big 2) c.order in
     rw (length-append, length-append) (omega arith)
@@ -39,10 +41,10 @@ module _ {I : Type 0} (t : Ghosts I) (law : Lawful t) (room : ℕ) (bs : List �
     pub sound : Sound t room c
     pub bytes : bs ≡ encode t c
 
-  going_back : (h : Header) (os : List (Operation I)) → Bytes bs → frame_of t.code bs ≡ Ok h → run t room bs h.count ≡ going os →
-      Right (contents h.kind h.k os (numbers_of h.count (drop (8 + 24 * h.count) bs)))
+  going_back : (h : Header) (os : List (Operation I)) → Bytes bs → frame_of t.TYPE bs ≡ Ok h → run t room bs h.count ≡ going os →
+      Right (contents (kind_number h.kind) h.k os (numbers_of h.count (drop (8 + 24 * h.count) bs)))
   going_back h os b e r =
-      let f = frame_back t.code bs h b e in
+      let f = frame_back t.TYPE bs h b e in
       let n = h.count in
       let fl = f.long in
       let k = run_back t law room bs n os b (omega arith) r in
@@ -53,10 +55,10 @@ module _ {I : Type 0} (t : Ghosts I) (law : Lawful t) (room : ℕ) (bs : List �
       let x = take-append-drop 8 bs in
       let y = take-append-drop (24 * n) (drop 8 bs) in
       let z = drop-drop (24 * n) 8 bs in
-      let heads : take 8 bs ≡ bytes_of_header t.code h.kind (length os) h.k = f.bytes ∙ ap (λ m. bytes_of_header t.code h.kind m h.k) (sym m) in
+      let heads : take 8 bs ≡ bytes_of_header t.TYPE (kind_number h.kind) (length os) h.k = f.bytes ∙ ap (λ m. bytes_of_header t.TYPE (kind_number h.kind) m h.k) (sym m) in
       record {
         sound = record {
-          kind = f.kind;
+          kind = number_small h.kind;
           k = f.k;
           count = omega arith;
           place = omega arith;
@@ -68,46 +70,48 @@ module _ {I : Type 0} (t : Ghosts I) (law : Lawful t) (room : ℕ) (bs : List �
         bytes =
             sym x ∙ ap (λ q. take 8 bs ++ q) (sym y) ∙ sym (append_assoc (take 8 bs) (take (24 * n) (drop 8 bs)) (drop (24 * n) (drop 8 bs)))
             ∙ ap (λ q. q ++ take (24 * n) (drop 8 bs) ++ drop (24 * n) (drop 8 bs)) heads
-            ∙ ap (λ q. bytes_of_header t.code h.kind (length os) h.k ++ q ++ drop (24 * n) (drop 8 bs)) k.bytes
-            ∙ ap (λ q. bytes_of_header t.code h.kind (length os) h.k ++ flat_map (encode_record t) os ++ q) (z ∙ sym o.0);
+            ∙ ap (λ q. bytes_of_header t.TYPE (kind_number h.kind) (length os) h.k ++ q ++ drop (24 * n) (drop 8 bs)) k.bytes
+            ∙ ap (λ q. bytes_of_header t.TYPE (kind_number h.kind) (length os) h.k ++ flat_map (encode_record t) os ++ q) (z ∙ sym o.0);
       }
 
-  ended_back : (h : Header) (c : Contents I) (r : Run I) → Bytes bs → frame_of t.code bs ≡ Ok h → run t room bs h.count ≡ r →
+  ended_back : (h : Header) (c : Contents I) (r : Run I) → Bytes bs → frame_of t.TYPE bs ≡ Ok h → run t room bs h.count ≡ r →
       ended h bs r ≡ accepted c → Right c
   ended_back h c (going os) b e r p =
-      let q : contents h.kind h.k os (numbers_of h.count (drop (8 + 24 * h.count) bs)) ≡ c = cc in
+      let q : contents (kind_number h.kind) h.k os (numbers_of h.count (drop (8 + 24 * h.count) bs)) ≡ c = cc in
       subst Right q (going_back h os b e r)
   ended_back h c (stopped os i f) b e r p = let z : ◌≡◌ {A = ℕ} 0 1 = cc in absurd (omega arith)
 
-  framed_back : (c : Contents I) (r : Result Header FrameFault) → Bytes bs → frame_of t.code bs ≡ r → framed t room bs r ≡ accepted c → Right c
+  framed_back : (c : Contents I) (r : Result Header FrameFault) → Bytes bs → frame_of t.TYPE bs ≡ r → framed t room bs r ≡ accepted c → Right c
   framed_back c (Ok h) b e p = ended_back h c (run t room bs h.count) b e refl p
   framed_back c (Err f) b e p = let z : ◌≡◌ {A = ℕ} 0 1 = cc in absurd (omega arith)
 
   pub reading_back : (c : Contents I) → Bytes bs → reading t room bs ≡ accepted c → Right c
-  reading_back c b p = framed_back c (frame_of t.code bs) b refl p
+  reading_back c b p = framed_back c (frame_of t.TYPE bs) b refl p
 
   pub reading_there : (c : Contents I) → Sound t room c → bs ≡ encode t c → reading t room bs ≡ accepted c
   reading_there c v e =
       let n = length c.ops in
       let recs = flat_map (encode_record t) c.ops in
       let ords = flat_map (big 2) c.order in
-      let head = bytes_of_header t.code c.kind n c.k in
-      let lh = length_header t.code c.kind n c.k in
+      let head = bytes_of_header t.TYPE c.kind n c.k in
+      let lh = length_header t.TYPE c.kind n c.k in
       let lr = length_joined (encode_record t) 24 (length_record t) c.ops in
       let lo = length_joined (big 2) 2 (length_big 2) c.order in
       let eq = v.ordered in
       let place = v.place in
       let enters = enters_of t law room [] c.ops tt v.fits v.consistent (omega arith) in
       let e₁ : bs ≡ head ++ (recs ++ ords) = e ∙ append_assoc head recs ords in
-      let f : frame_of t.code bs ≡ Ok (record { kind = c.kind; count = n; k = c.k }) =
-      ap (frame_of t.code) e₁ ∙ frame_there t.code c.kind n c.k (recs ++ ords) law.coded v.kind v.count v.k (rw length-append (omega arith)) in
+      let kind = kind_of c.kind v.kind in
+      let f : frame_of t.TYPE bs ≡ Ok (record { kind = kind.0; count = n; k = c.k }) =
+      ap (frame_of t.TYPE) e₁ ∙ ap (λ m. frame_of t.TYPE (bytes_of_header t.TYPE m n c.k ++ (recs ++ ords))) (sym kind.1)
+      ∙ frame_there t.TYPE n c.k kind.0 (recs ++ ords) law.coded v.count v.k (rw length-append (omega arith)) in
       let r : run t room bs n ≡ going c.ops =
       ap (run t room bs) (sym (zero-add n)) ∙ run_there t law room bs head ords [] c.ops lh e₁ refl enters in
       let d : drop (8 + 24 * n) bs ≡ ords = ap (drop (8 + 24 * n)) e ∙ drop_at (head ++ recs) ords (8 + 24 * n) (rw length-append (omega arith)) in
       let o : numbers_of n (drop (8 + 24 * n) bs) ≡ c.order =
       ap (numbers_of n) d ∙ ap (λ m. numbers_of m ords) (sym eq) ∙ numbers_there c.order v.small in
-      ap (framed t room bs) f ∙ ap (ended (record { kind = c.kind; count = n; k = c.k }) bs) r
-      ∙ ap (λ q. accepted (contents c.kind c.k c.ops q)) o
+      ap (framed t room bs) f ∙ ap (ended (record { kind = kind.0; count = n; k = c.k }) bs) r
+      ∙ ap (λ q. accepted (contents (kind_number kind.0) c.k c.ops q)) o ∙ ap (λ m. accepted (contents m c.k c.ops c.order)) kind.1
 
 -- the records of a trace whose length is right
 pub count_right : (bs : List ℕ) (n : ℕ) → length bs ≡ 8 + 26 * n → record_count bs ≡ n
@@ -115,7 +119,7 @@ count_right bs n l = omega arith
 
 -- what the calls of a reading come to
 pub accepting : {I : Type 0} (t : Ghosts I) (code room room' : ℕ) (bs bs' : List ℕ) (h : Header) (r : Run I) →
-    code ≡ t.code → Ok h ≡ frame_of code bs → room' ≡ room → bs' ≡ bs → length bs ≡ 8 + 26 * h.count → run t room' bs' (record_count bs') ≡ r →
+    code ≡ t.TYPE → Ok h ≡ frame_of code bs → room' ≡ room → bs' ≡ bs → length bs ≡ 8 + 26 * h.count → run t room' bs' (record_count bs') ≡ r →
     reading t room bs ≡ ended h bs r
 accepting t code room room' bs bs' h r c f m b l e =
     let n : record_count bs' ≡ h.count = ap record_count b ∙ count_right bs h.count l in

@@ -1,8 +1,8 @@
 -- Taking the records of a trace in turn.
-use Rattle.std.proofs.Common.{◌≡◌, ℕ, zero, suc, ◌+◌, ◌-◌, ◌*◌, ◌<◌, ◌≤◌, true, false, cond, ltb, List, [], ◌∷◌, ◌++◌, length, take, drop, Some, None, Ok, Err, Result, sym, refl, ap, ◌∙◌, subst, ⊎_elim, append_assoc, append-nil, add-zero, suc-add, mul-zero, zero-add, mul-suc, add-one, arith, length-append, length-drop, length-take, take_at, take-add, drop_at}
+use Rattle.std.proofs.Common.{◌≡◌, ℕ, zero, suc, ◌+◌, ◌-◌, ◌*◌, ◌<◌, ◌≤◌, List, [], ◌∷◌, ◌++◌, length, take, drop, Ok, Err, Result, sym, refl, ap, ◌∙◌, subst, append_assoc, append-nil, add-zero, suc-add, mul-zero, zero-add, mul-suc, add-one, arith, length-append, length-drop, length-take, take_at, take-add, drop_at}
 use Rattle.std.proofs.lemmas.List.{drop-drop, flat_map_more, length_push}
-use Rattle.std.proofs.lemmas.Bool.{cases_Bool, ltb-true, ltb-false}
 use Rattle.std.specs.List.{flat_map}
+use Rattle.std.specs.Result.{result_map_both}
 use Rattle.item.specs.declared.item.Item.{Ghosts}
 use Rattle.item.specs.Items.{Lawful}
 use Rattle.sheet.specs.declared.operation.Operation.{Operation}
@@ -15,7 +15,9 @@ use Rattle.record.specs.Records.{decode_record, encode_record}
 use Rattle.record.proofs.Digits.{bytes_take, bytes_drop}
 use Rattle.record.proofs.Codec.{length_record, record_there, record_back}
 use Rattle.trace.specs.declared.fault.EntryFault.{EntryFault}
+use Rattle.trace.specs.declared.fault.RefusedRecord.{RefusedRecord}
 use Rattle.frame.specs.Layout.{record_at}
+use Rattle.trace.specs.Answers.{left_at, left_by}
 use Rattle.trace.specs.Reading.{Run, if_entered, if_decoded, after, taken, next, run}
 use Rattle.trace.specs.Reading.Run.{going, stopped}
 use Rattle.trace.proofs.Entries.{Enters, enters_push}
@@ -28,17 +30,6 @@ length_joined f w h (x ∷ xs) =
     let l = h x in
     let m = mul-suc w (length xs) in
     rw length-append (omega arith)
-
--- what handing out a record tells
-pub handed_out : {X : Type 0} (i n : ℕ) (x y : X) → Some x ≡ cond (ltb i n) (Some y) None → (i < n) × (x ≡ y)
-handed_out i n x y e =
-    ⊎_elim (λ (t : ltb i n ≡ true). let f = rw t at e in (ltb-true i n t, cc)) (λ (t : ltb i n ≡ false). let f = rw t at e in let z : ◌≡◌ {A = ℕ} 0 1 = cc in absurd (omega arith))
-    (cases_Bool (ltb i n))
-
-pub none_left : {X : Type 0} (i n : ℕ) (y : X) → None ≡ cond (ltb i n) (Some y) None → n ≤ i
-none_left i n y e =
-    ⊎_elim (λ (t : ltb i n ≡ true). let f = rw t at e in let z : ◌≡◌ {A = ℕ} 0 1 = cc in absurd (omega arith)) (λ (t : ltb i n ≡ false). ltb-false i n t)
-    (cases_Bool (ltb i n))
 
 record_add : (bs : List ℕ) (i : ℕ) → take (24 * suc i) (drop 8 bs) ≡ take (24 * i) (drop 8 bs) ++ record_at i bs
 record_add bs i =
@@ -65,11 +56,19 @@ module _ {I : Type 0} (t : Ghosts I) (room : ℕ) (bs : List ℕ) where
       rec ≡ record_at i bs → after os i (taken t room' os rec) ≡ r → run t room bs (i + 1) ≡ r
   turn i room' os rec r p same q s = one_more i os rec r p q (ap (λ m. after os i (taken t m os rec)) (sym same) ∙ s)
 
-  pub turned_away : (i n room' : ℕ) (os fin : List (Operation I)) (rec : List ℕ) (e : EntryFault) → run t room bs i ≡ going os → room' ≡ room →
-      rec ≡ record_at i bs → after os i (taken t room' os rec) ≡ stopped fin i e → i < n → run t room bs n ≡ stopped fin i e
-  turned_away i n room' os fin rec e p same q s h =
+  pub turned_away : (i n j room' : ℕ) (os fin : List (Operation I)) (rec : List ℕ) (e : EntryFault) → run t room bs i ≡ going os → room' ≡ room →
+      rec ≡ record_at i bs → after os i (taken t room' os rec) ≡ stopped fin j e → i < n → run t room bs n ≡ stopped fin j e
+  turned_away i n j room' os fin rec e p same q s h =
       let k : n - (i + 1) + (i + 1) ≡ n = omega arith in
-      ap (run t room bs) (sym k) ∙ stays (n - (i + 1)) (i + 1) i fin e (turn i room' os rec (stopped fin i e) p same q s)
+      ap (run t room bs) (sym k) ∙ stays (n - (i + 1)) (i + 1) j fin e (turn i room' os rec (stopped fin j e) p same q s)
+
+-- a record's answer, with the place where it is refused
+abbrev pub placed : ℕ → Result (Unit {0}) EntryFault → Result (Unit {0}) RefusedRecord
+placed i = result_map_both (λ u. u) (λ e. record { place = i; fault = e })
+
+pub left_placed : {I : Type 0} (i : ℕ) (r : Result (Unit {0}) EntryFault) (os : List (Operation I)) → left_at i r os ≡ left_by (placed i r) os
+left_placed i (Ok u) os = refl
+left_placed i (Err e) os = refl
 
 module _ {I : Type 0} (t : Ghosts I) (room : ℕ) where
   entered_back : (os : List (Operation I)) (x op : Operation I) (r : Result ℕ SheetFault) → enter_answer t.number room os x ≡ r → if_entered x r ≡ Ok op →

@@ -60,15 +60,15 @@ small_push [] x a f = (f, tt)
 small_push (y ∷ xs) x a f = (a.0, small_push xs x a.1 f)
 
 -- the three parts of a trace
-pub whole : {I : Type 0} (t : Ghosts I) (code kind k : ℕ) (ops : List (Operation I)) (order head mem o₁ o₂ o₃ : List ℕ) → code ≡ t.code → length order ≡ length ops →
+pub whole : {I : Type 0} (t : Ghosts I) (code kind k : ℕ) (ops : List (Operation I)) (order head mem o₁ o₂ o₃ : List ℕ) → code ≡ t.TYPE → length order ≡ length ops →
     head ≡ bytes_of_header code kind (length ops) k →
     o₁ ≡ take 0 mem ++ head ++ drop (0 + length head) mem →
     o₂ ≡ take 8 o₁ ++ flat_map (encode_record t) ops ++ drop (8 + 24 * length ops) o₁ →
     o₃ ≡ take (8 + 24 * length ops) o₂ ++ flat_map (big 2) order ++ drop (8 + 24 * length ops + 2 * length order) o₂ →
     o₃ ≡ encode t (contents kind k ops order) ++ drop (8 + 26 * length ops) mem
 whole t code kind k ops order head mem o₁ o₂ o₃ same e h p q r =
-    let hd : head ≡ bytes_of_header t.code kind (length ops) k = h ∙ ap (λ c. bytes_of_header c kind (length ops) k) same in
-    let lh : length head ≡ 8 = ap length hd ∙ length_header t.code kind (length ops) k in
+    let hd : head ≡ bytes_of_header t.TYPE kind (length ops) k = h ∙ ap (λ c. bytes_of_header c kind (length ops) k) same in
+    let lh : length head ≡ 8 = ap length hd ∙ length_header t.TYPE kind (length ops) k in
     let z : 0 + length head ≡ 8 = omega arith in
     let first : o₁ ≡ head ++ drop 8 mem = p ∙ ap (λ n. head ++ drop n mem) z in
     let lr = length_joined (encode_record t) 24 (length_record t) ops in

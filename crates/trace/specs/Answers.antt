@@ -1,11 +1,14 @@
 -- What is answered, and what a sheet then holds.
-use Rattle.std.specs.Prelude.{ℕ, List, Ok, Err, Result}
+use Rattle.std.specs.Prelude.{◌≡◌, ℕ, List, Ok, Err, Result}
+use Rattle.sheet.specs.Sheets.{entered, memory, room, filled}
+use Rattle.sheet.specs.declared.sheet.Sheet.{Sheet}
 use Rattle.sheet.specs.declared.operation.Operation.{Operation}
 use Rattle.trace.specs.declared.fault.EntryFault.{EntryFault}
 use Rattle.trace.specs.declared.fault.RefusedRecord.{RefusedRecord}
 use Rattle.trace.specs.declared.fault.ReadFault.{ReadFault}
 use Rattle.trace.specs.declared.fault.ReadFault.TheVariants.{Frame, Entry}
 use Rattle.trace.specs.declared.read.Accepted.{Accepted}
+use Rattle.frame.specs.Kinds.{kind_number}
 use Rattle.frame.specs.Orders.{order_of}
 use Rattle.trace.specs.Contents.{Contents, contents}
 use Rattle.trace.specs.Reading.{Run, Outcome}
@@ -43,8 +46,14 @@ module _ {I : Type 0} where
   left_by (Ok u) os = going os
   left_by (Err r) os = stopped os r.place r.fault
 
+-- a sheet over the same records, of which only those of its operations may have changed
+pub record Refilled {I : Type 0} (before after : Sheet I) : Type 0 where
+  pub memory : memory after ≡ filled (entered after) (memory before)
+  pub room : room after ≡ room before
+  pub lender : after.records.ghost_name ≡ before.records.ghost_name
+
 abbrev pub said : Accepted → Said
-said a = record { kind = a.kind; k = a.k; order = order_of a.order }
+said a = record { kind = kind_number a.kind; k = a.k; order = order_of a.order }
 
 -- an answer as the values that it says
 abbrev pub shown : Result Accepted ReadFault → Result Said ReadFault
@@ -53,4 +62,4 @@ shown (Err e) = Err e
 
 -- the contents of an accepted trace whose operations are entered
 abbrev pub contents_of : {I : Type 0} → Accepted → List (Operation I) → Contents I
-contents_of a ops = contents a.kind a.k ops (order_of a.order)
+contents_of a ops = contents (kind_number a.kind) a.k ops (order_of a.order)

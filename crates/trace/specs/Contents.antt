@@ -21,7 +21,7 @@ contents kind k ops order = record { kind = kind; k = k; ops = ops; order = orde
 module _ {I : Type 0} (t : Ghosts I) where
   -- the bytes of a trace with these contents
   abbrev pub encode : Contents I → List ℕ
-  encode c = bytes_of_header t.code c.kind (length c.ops) c.k ++ flat_map (encode_record t) c.ops ++ flat_map (big 2) c.order
+  encode c = bytes_of_header t.TYPE c.kind (length c.ops) c.k ++ flat_map (encode_record t) c.ops ++ flat_map (big 2) c.order
 
   abbrev pub AllFit : List (Operation I) → Type 0
   AllFit [] = Unit {0}

@@ -12,6 +12,7 @@ use Rattle.trace.specs.declared.fault.EntryFault.TheVariants.{Record, Sheet}
 use Rattle.frame.specs.declared.header.Header.{Header}
 use Rattle.frame.specs.Layout.{record_at}
 use Rattle.frame.specs.Headers.{frame_of}
+use Rattle.frame.specs.Kinds.{kind_number}
 use Rattle.frame.specs.Orders.{numbers_of}
 use Rattle.trace.specs.Contents.{Contents, contents}
 
@@ -36,7 +37,7 @@ module _ {I : Type 0} where
   after os i (Err e) = stopped os i e
 
   abbrev pub ended : Header → List ℕ → Run I → Outcome I
-  ended h bs (going os) = accepted (contents h.kind h.k os (numbers_of h.count (drop (8 + 24 * h.count) bs)))
+  ended h bs (going os) = accepted (contents (kind_number h.kind) h.k os (numbers_of h.count (drop (8 + 24 * h.count) bs)))
   ended h bs (stopped os i e) = refused os i e
 
 module _ {I : Type 0} (t : Ghosts I) (room : ℕ) where
@@ -63,4 +64,4 @@ module _ {I : Type 0} (t : Ghosts I) (room : ℕ) where
 
   -- reading a trace onto a sheet with that much room
   abbrev pub reading : List ℕ → Outcome I
-  reading bs = framed bs (frame_of t.code bs)
+  reading bs = framed bs (frame_of t.TYPE bs)

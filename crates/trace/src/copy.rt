@@ -1,9 +1,9 @@
 ghost use Rattle.std.specs.Prelude.{◌≡◌, ℕ, ◌≤◌, ◌++◌, length, take, drop, IfOk, MatchResult};
-ghost use Rattle.sheet.specs.Sheets.{entered, memory, room, filled};
+ghost use Rattle.sheet.specs.Sheets.{entered, room};
 ghost use Rattle.trace.specs.Contents.{Contents, Sound, encode};
 ghost use Rattle.trace.specs.Reading.{reading};
 ghost use Rattle.trace.specs.Reading.Outcome.{accepted};
-ghost use Rattle.trace.specs.Answers.{held, contents_of};
+ghost use Rattle.trace.specs.Answers.{held, contents_of, Refilled};
 ghost use Rattle.trace.specs.Copying.{copying, Copied};
 
 use crate::fault::CopyFault;
@@ -22,15 +22,19 @@ pub fn copy<'a, I: Item>(
 ) -> Result<Accepted<'a>, CopyFault>
     ensures answer { Copied result (copying (length out.old) (reading I.Item (room sheet.old) bytes.now)) }
     ensures entered { entered sheet.new ≡ held (entered sheet.old) (reading I.Item (room sheet.old) bytes.now) }
-    ensures memory { memory sheet.new ≡ filled (entered sheet.new) (memory sheet.old) }
-    ensures room { room sheet.new ≡ room sheet.old }
-    ensures lender { sheet.new.records.ghost_name ≡ sheet.old.records.ghost_name }
+    ensures refilled { Refilled sheet.old sheet.new }
     ensures written_back_is_its_own_bytes { MatchResult result (λ _. out.new ≡ bytes.now ++ drop (length bytes.now) out.old) (λ _. out.new ≡ out.old) }
     ensures written_reads_as_what_went_in { IfOk result (λ a. (n : ℕ) → length (entered sheet.new) ≤ n → reading I.Item n (take (length bytes.now) out.new) ≡ accepted (contents_of a (entered sheet.new))) }
     ensures accepted_is_sound { IfOk result (λ a. Sound I.Item (room sheet.old) (contents_of a (entered sheet.new))) }
 {
     let accepted = read(bytes, sheet)?;
     let order = accepted.order.numbers(heap)?;
-    write(sheet, accepted.kind, accepted.k, order.as_slice(), out)?;
+    write(
+        sheet,
+        accepted.kind.into(),
+        accepted.k,
+        order.as_slice(),
+        out,
+    )?;
     Ok(accepted)
 }

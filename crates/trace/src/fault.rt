@@ -62,22 +62,22 @@ impl EntryFault {
     }
 }
 
-impl ReadFault {
-    pub fn refusal(&self) -> Refusal
-        ensures { result ≡ read_refusal self.now }
-    {
-        match self {
-            ReadFault::Frame(fault) => fault.refusal(),
+impl From<ReadFault> for Refusal {
+    ghost from_gives = { λ fault r. r ≡ read_refusal fault };
+
+    fn from(fault: ReadFault) -> Refusal {
+        match fault {
+            ReadFault::Frame(fault) => Refusal::from(fault),
             ReadFault::Entry(refused) => refused.fault.refusal(refused.place),
         }
     }
 }
 
-impl WriteFault {
-    pub fn refusal(&self) -> Refusal
-        ensures { result ≡ write_refusal self.now }
-    {
-        let number = match self {
+impl From<WriteFault> for Refusal {
+    ghost from_gives = { λ fault r. r ≡ write_refusal fault };
+
+    fn from(fault: WriteFault) -> Refusal {
+        let number = match fault {
             WriteFault::Kind => 3,
             WriteFault::OrderLength => 52,
             WriteFault::Memory => 51,
@@ -96,9 +96,9 @@ impl CopyFault {
     pub fn refusal(&self) -> Option<Refusal>
         ensures { result ≡ copy_refusal self.now }
     {
-        match self {
-            CopyFault::Reading(fault) => Some(fault.refusal()),
-            CopyFault::Writing(fault) => Some(fault.refusal()),
+        match *self {
+            CopyFault::Reading(fault) => Some(Refusal::from(fault)),
+            CopyFault::Writing(fault) => Some(Refusal::from(fault)),
             CopyFault::NoMemory => None,
         }
     }

@@ -1,12 +1,13 @@
 ghost use Rattle.std.specs.Prelude.{◌≡◌, ℕ, ◌+◌, ◌*◌, ◌≤◌, [], length, IfOk, Ok};
-ghost use Rattle.sheet.specs.Sheets.{entered, memory, room, filled};
+ghost use Rattle.sheet.specs.Sheets.{entered, room};
 ghost use Rattle.frame.specs.Layout.{record_count};
 ghost use Rattle.trace.specs.Contents.{Contents, Sound, encode};
 ghost use Rattle.trace.specs.Reading.{after, taken, run, reading};
-ghost use Rattle.trace.specs.Answers.{answered, held, left_at, left_by, shown, saying_of, contents_of};
+ghost use Rattle.trace.specs.Answers.{answered, held, left_at, left_by, shown, saying_of, contents_of, Refilled};
 
 use crate::fault::{EntryFault, ReadFault, RefusedRecord};
 use frame::header::read_header;
+use frame::kind::Kind;
 use frame::order::Order;
 use frame::records::Trace;
 use item::item::Item;
@@ -16,7 +17,7 @@ use sheet::sheet::Sheet;
 // What an accepted trace says besides its operations.
 #[derive(Clone, Copy)]
 pub struct Accepted<'a> {
-    pub kind: u8,
+    pub kind: Kind,
     pub k: u16,
     pub order: Order<'a>,
 }
@@ -25,9 +26,7 @@ pub struct Accepted<'a> {
 fn take_record<I: Item>(rec: &[u8], sheet: &mut Sheet<I>) -> Result<(), EntryFault>
     ensures step { (i : ℕ) → after (entered sheet.old) i (taken I.Item (room sheet.old) (entered sheet.old) rec.now) ≡ left_at i result (entered sheet.new) }
     ensures grows { length (entered sheet.old) ≤ length (entered sheet.new) }
-    ensures memory { memory sheet.new ≡ filled (entered sheet.new) (memory sheet.old) }
-    ensures room { room sheet.new ≡ room sheet.old }
-    ensures lender { sheet.new.records.ghost_name ≡ sheet.old.records.ghost_name }
+    ensures refilled { Refilled sheet.old sheet.new }
 {
     let op = decode(rec)?;
     sheet.enter(op)?;
@@ -39,50 +38,31 @@ fn take_all<I: Item>(trace: &Trace, sheet: &mut Sheet<I>) -> Result<(), RefusedR
     requires few { record_count trace.now.bytes.now ≤ 1024 }
     requires empty { entered sheet.old ≡ [] }
     ensures run { run I.Item (room sheet.old) trace.now.bytes.now (record_count trace.now.bytes.now) ≡ left_by result (entered sheet.new) }
-    ensures memory { memory sheet.new ≡ filled (entered sheet.new) (memory sheet.old) }
-    ensures room { room sheet.new ≡ room sheet.old }
-    ensures lender { sheet.new.records.ghost_name ≡ sheet.old.records.ghost_name }
+    ensures refilled { Refilled sheet.old sheet.new }
 {
-    let mut place = 0u16;
-    while let Some(rec) = trace.record(place as usize) {
-        if let Err(fault) = take_record(rec, sheet) {
-            return Err(RefusedRecord { place, fault });
-        }
-        place += 1;
+    for (place, rec) in trace.records().iter().enumerate() {
+        let place = place as u16;
+        take_record(rec, sheet).map_err(|fault| RefusedRecord { place, fault })?;
     }
     Ok(())
-}
-
-// The header's checks, and then the records in turn.
-fn read_parts<'a, I: Item>(bytes: &'a [u8], sheet: &mut Sheet<I>) -> Result<Accepted<'a>, ReadFault>
-    ensures answer { shown result ≡ answered (reading I.Item (room sheet.old) bytes.now) }
-    ensures entered { entered sheet.new ≡ held (entered sheet.old) (reading I.Item (room sheet.old) bytes.now) }
-    ensures memory { memory sheet.new ≡ filled (entered sheet.new) (memory sheet.old) }
-    ensures room { room sheet.new ≡ room sheet.old }
-    ensures lender { sheet.new.records.ghost_name ≡ sheet.old.records.ghost_name }
-{
-    let header = read_header(bytes, I::type_code())?;
-    sheet.clear();
-    take_all(&Trace::new(bytes), sheet)?;
-    let from = 8 + 24 * header.count as usize;
-    let order = Order::new(&bytes[from..bytes.len()]);
-    Ok(Accepted {
-        kind: header.kind,
-        k: header.k,
-        order,
-    })
 }
 
 // Reads a trace onto a sheet. A refused header leaves the sheet as it was; a refused record leaves the earlier ones entered.
 pub fn read<'a, I: Item>(bytes: &'a [u8], sheet: &mut Sheet<I>) -> Result<Accepted<'a>, ReadFault>
     ensures answer { shown result ≡ answered (reading I.Item (room sheet.old) bytes.now) }
     ensures entered { entered sheet.new ≡ held (entered sheet.old) (reading I.Item (room sheet.old) bytes.now) }
-    ensures memory { memory sheet.new ≡ filled (entered sheet.new) (memory sheet.old) }
-    ensures room { room sheet.new ≡ room sheet.old }
-    ensures lender { sheet.new.records.ghost_name ≡ sheet.old.records.ghost_name }
+    ensures refilled { Refilled sheet.old sheet.new }
     ensures accepted_is_sound { IfOk result (λ a. Sound I.Item (room sheet.old) (contents_of a (entered sheet.new))) }
     ensures accepted_is_encoded { IfOk result (λ a. bytes.now ≡ encode I.Item (contents_of a (entered sheet.new))) }
     ensures encoded_sound_is_accepted { (c : Contents I) → Sound I.Item (room sheet.old) c → bytes.now ≡ encode I.Item c → (shown result ≡ Ok (saying_of c)) × (entered sheet.new ≡ c.ops) }
 {
-    read_parts(bytes, sheet)
+    let header = read_header(bytes, I::TYPE)?;
+    sheet.clear();
+    take_all(&Trace::new(bytes), sheet)?;
+    let from = 8 + 24 * header.count as usize;
+    Ok(Accepted {
+        kind: header.kind,
+        k: header.k,
+        order: Order::new(&bytes[from..bytes.len()]),
+    })
 }

@@ -4,6 +4,7 @@ ghost use Rattle.sheet.specs.Sheets.{entered};
 ghost use Rattle.record.specs.Bytes.{big};
 ghost use Rattle.record.specs.Records.{encode_record};
 ghost use Rattle.frame.specs.Headers.{bytes_of_header};
+ghost use Rattle.frame.specs.Kinds.{kind_number};
 ghost use Rattle.frame.specs.Orders.{Small};
 ghost use Rattle.trace.specs.Contents.{contents, encode, AllFit};
 ghost use Rattle.trace.specs.Reading.{reading};
@@ -11,6 +12,7 @@ ghost use Rattle.trace.specs.Reading.Outcome.{accepted};
 ghost use Rattle.trace.specs.Writing.{writing};
 
 use crate::fault::WriteFault;
+use frame::kind::Kind;
 use item::item::Item;
 use record::encoding::encode;
 use sheet::operation::Operation;
@@ -20,13 +22,14 @@ use sheet::sheet::Sheet;
 type HeaderBytes = [u8; 8];
 
 // The 8 bytes of a header.
-fn header_bytes(code: u8, kind: u8, count: u16, k: u16) -> HeaderBytes
-    ensures { result ≡ bytes_of_header code kind count k }
+fn header_bytes(item_type: u8, kind: Kind, count: u16, k: u16) -> HeaderBytes
+    ensures { result ≡ bytes_of_header item_type (kind_number kind) count k }
 {
-    let word = (4096 + kind as u32 * 256 + code as u32 * 16).to_be_bytes();
-    let n = count.to_be_bytes();
-    let bound = k.to_be_bytes();
-    [word[2], word[3], n[0], n[1], bound[0], bound[1], 0, 0]
+    let word = 4096 + u16::from(u8::from(kind)) * 256 + u16::from(item_type) * 16;
+    let [w0, w1] = word.to_be_bytes();
+    let [n0, n1] = count.to_be_bytes();
+    let [k0, k1] = k.to_be_bytes();
+    [w0, w1, n0, n1, k0, k1, 0, 0]
 }
 
 // Writes the part over the bytes from `at` on.
@@ -72,20 +75,14 @@ pub fn write<I: Item>(
     ensures reads_as_what_went_in { OnOk result ((room : ℕ) → length (entered sheet.now) ≤ room → reading I.Item room (take (8 + 26 * length (entered sheet.now)) out.new) ≡ accepted (contents kind k (entered sheet.now) order.now)) }
 {
     let ops = sheet.all();
-    if kind > 2 {
-        return Err(WriteFault::Kind);
-    }
+    let kind = Kind::try_from(kind).map_err(|_| WriteFault::Kind)?;
     if order.len() != ops.len() {
         return Err(WriteFault::OrderLength);
     }
     if out.len() < 8 + 26 * ops.len() {
         return Err(WriteFault::Memory);
     }
-    paste(
-        out,
-        0,
-        &header_bytes(I::type_code(), kind, ops.len() as u16, k),
-    );
+    paste(out, 0, &header_bytes(I::TYPE, kind, ops.len() as u16, k));
     put_records(out, ops);
     put_order(out, 8 + 24 * ops.len(), order);
     Ok(())

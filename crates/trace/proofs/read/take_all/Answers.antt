@@ -1,74 +1,67 @@
-use Rattle.std.proofs.Common.{◌≡◌, sym, refl, ap, ◌∙◌, arith}
-use Rattle.sheet.specs.Sheets.{entered, memory, room, filled}
-use Rattle.sheet.proofs.Fills.{filled_same, filled_twice}
-use Rattle.frame.specs.Layout.{record_count, record_at}
+use Rattle.std.proofs.Common.{◌≡◌, ◌<◌, [], get_or, length, sym, ap, ◌∙◌, arith, rules}
+use Rattle.std.proofs.lemmas.Result.{err_from_is_err_and}
+use Rattle.sheet.specs.Sheets.{entered, room}
+use Rattle.frame.specs.Layout.{record_count}
+use Rattle.frame.proofs.RecordPlaces.{length_records, record_in_turn}
 use Rattle.trace.specs.Reading.{run}
 use Rattle.trace.specs.Reading.Run.{going}
-use Rattle.trace.proofs.Runs.{turn, turned_away, handed_out, none_left}
+use Rattle.trace.specs.Answers.{left_by}
+use Rattle.trace.proofs.Refills.{refilled_same, refilled_twice}
+use Rattle.trace.proofs.Runs.{placed, left_placed, turn, turned_away}
 use Rattle.trace.proofs.read.take_all.Goals as goal
 
+pub loop-place-init : goal.loop-place-init
+loop-place-init g c = record { taken = ap (λ os. going os) (sym c.requires.empty); refilled = refilled_same c.args.sheet.now }
+
 pub overflow_cast-place : goal.overflow_cast-place
-overflow_cast-place g c = omega (arith, c.loop-rec.invariant.4, c.requires.few)
+overflow_cast-place g c =
+    let l = ap length c.records-rec-items.ensures ∙ length_records c.args.trace.now.bytes.now in
+    omega (arith, c.requires.few)
 
-pub loop-rec-init : goal.loop-rec-init
-loop-rec-init g c = (ap (λ os. going os) (sym c.requires.empty), refl, filled_same c.args.sheet.now, refl, omega arith)
-
-pub overflow_add-place : goal.overflow_add-place
-overflow_add-place g c =
+pub returns-in_err-map_err : goal.returns-in_err-map_err
+returns-in_err-map_err g c =
     let bs = c.args.trace.now.bytes.now in
-    let h = handed_out c.loop-rec.place (record_count bs) _ (record_at c.loop-rec.place bs) c.in-Some.ensures in
-    omega (arith, h.0, c.requires.few)
-
-pub returns-in-Err : goal.returns-in-Err
-returns-in-Err g c =
-    let bs = c.args.trace.now.bytes.now in
-    let i = c.loop-rec.place in
-    let s = c.loop-rec.sheet in
-    let fin = entered c.take_record.new.sheet in
-    let h = handed_out i (record_count bs) _ (record_at i bs) c.in-Some.ensures in
-    let e = c.in-Err.ensures in
-    record {
+    let i = c.loop-place.place in
+    let s = c.loop-place.sheet in
+    let fin = c.take_record.new.sheet in
+    let fault = c.in_err-map_err.field-0.0 in
+    let e = c.take_record.ensures in
+    let v = c.loop-place.invariant in
+    let p = err_from_is_err_and c.from_residual.result c.from_residual.ensures.1 in
+    let l = ap length c.records-rec-items.ensures ∙ length_records bs in
+    let inside : c.loop-place.place < record_count c.args.trace.now.bytes.now = omega arith in
+    let here = ap (λ rs. get_or rs i []) c.records-rec-items.ensures ∙ record_in_turn i bs [] inside in
+    let q : c.map_err.result ≡ placed c.loop-place.place c.take_record.result = search rules in
+    let left = e.step i ∙ left_placed i c.take_record.result (entered fin) ∙ ap (λ r. left_by r (entered fin)) (sym q ∙ c.in_err-map_err.was) in
+    rw (p.1, p.2) (record {
       run =
-          turned_away g.I.Item (room c.args.sheet.now) bs i (record_count bs) (room s) (entered s) fin c.in-Some.rec.now c.in-Err.fault
-          c.loop-rec.invariant.0 c.loop-rec.invariant.1 h.1 (e.step i) h.0;
-      memory =
-          e.memory ∙ ap (filled fin) c.loop-rec.invariant.2 ∙ filled_twice (entered s) fin (memory c.args.sheet.now) e.grows;
-      room = e.room ∙ c.loop-rec.invariant.1;
-      lender = e.lender ∙ c.loop-rec.invariant.3;
+          turned_away g.I.Item (room c.args.sheet.now) bs i (record_count bs) fault.place (room s) (entered s) (entered fin) _ fault.fault v.taken v.refilled.room here
+          left inside;
+      refilled = refilled_twice c.args.sheet.now s fin e.grows v.refilled e.refilled;
+    })
+
+pub loop-place-preserved : goal.loop-place-preserved
+loop-place-preserved g c =
+    let bs = c.args.trace.now.bytes.now in
+    let i = c.loop-place.place in
+    let s = c.loop-place.sheet in
+    let fin = c.take_record.new.sheet in
+    let e = c.take_record.ensures in
+    let v = c.loop-place.invariant in
+    let l = ap length c.records-rec-items.ensures ∙ length_records bs in
+    let inside : c.loop-place.place < record_count c.args.trace.now.bytes.now = omega arith in
+    let here = ap (λ rs. get_or rs i []) c.records-rec-items.ensures ∙ record_in_turn i bs [] inside in
+    let q : c.map_err.result ≡ placed c.loop-place.place c.take_record.result = search rules in
+    let left = e.step i ∙ left_placed i c.take_record.result (entered fin) ∙ ap (λ r. left_by r (entered fin)) (sym q ∙ c.in_ok-map_err.was) in
+    record {
+      taken = turn g.I.Item (room c.args.sheet.now) bs i (room s) (entered s) _ _ v.taken v.refilled.room here left;
+      refilled = refilled_twice c.args.sheet.now s fin e.grows v.refilled e.refilled;
     }
-
-pub loop-rec-preserved : goal.loop-rec-preserved
-loop-rec-preserved g c =
-    let bs = c.args.trace.now.bytes.now in
-    let i = c.loop-rec.place in
-    let s = c.loop-rec.sheet in
-    let fin = entered c.take_record.new.sheet in
-    let h = handed_out i (record_count bs) _ (record_at i bs) c.in-Some.ensures in
-    let l = h.0 in
-    let e = c.in_default-take_record.ensures in (
-      turn g.I.Item (room c.args.sheet.now) bs i (room s) (entered s) c.in-Some.rec.now _ c.loop-rec.invariant.0 c.loop-rec.invariant.1 h.1 (e.step i),
-      e.room ∙ c.loop-rec.invariant.1,
-      e.memory ∙ ap (filled fin) c.loop-rec.invariant.2 ∙ filled_twice (entered s) fin (memory c.args.sheet.now) e.grows,
-      e.lender ∙ c.loop-rec.invariant.3,
-      omega arith,
-    )
-
-pub loop-rec-smaller : goal.loop-rec-smaller
-loop-rec-smaller g c =
-    let bs = c.args.trace.now.bytes.now in
-    let h = handed_out c.loop-rec.place (record_count bs) _ (record_at c.loop-rec.place bs) c.in-Some.ensures in
-    omega (arith, h.0)
 
 pub returns : goal.returns
 returns g c =
     let bs = c.args.trace.now.bytes.now in
-    let i = c.loop-rec.place in
-    let h = none_left i (record_count bs) (record_at i bs) c.in_default.ensures in
-    let k = c.loop-rec.invariant.4 in
-    let e : record_count c.args.trace.now.bytes.now ≡ c.loop-rec.place = omega arith in
-    record {
-      run = ap (run g.I.Item (room c.args.sheet.now) bs) e ∙ c.loop-rec.invariant.0;
-      memory = c.loop-rec.invariant.2;
-      room = c.loop-rec.invariant.1;
-      lender = c.loop-rec.invariant.3;
-    }
+    let v = c.loop-place.invariant in
+    let l = ap length c.records-rec-items.ensures ∙ length_records bs in
+    let e : record_count c.args.trace.now.bytes.now ≡ c.loop-place.place = omega arith in
+    record { run = ap (run g.I.Item (room c.args.sheet.now) bs) e ∙ v.taken; refilled = v.refilled }
