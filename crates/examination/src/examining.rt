@@ -2,10 +2,11 @@
 ghost use Rattle.std.specs.Prelude.{◌≡◌, ℕ, min, true, false, ◌⊎◌, length, IfOk, vec_len, ◌==◌};
 ghost use Rattle.sheet.specs.Sheets.{entered};
 ghost use Rattle.frame.specs.Orders.{order_of};
+ghost use Rattle.trace.specs.Faults.{read_refusal};
 ghost use Rattle.trace.specs.Reading.{reading};
 ghost use Rattle.docket.specs.Pairs.{sheet_ops};
 ghost use Rattle.docket.specs.InStep.{three};
-ghost use Rattle.examination.specs.declared.examining.ExamineFault.TheVariants.{NoMemory};
+ghost use Rattle.examination.specs.declared.examining.ExamineFault.TheVariants.{Refused, NoMemory};
 ghost use Rattle.examination.specs.Kinds.{seat_of};
 ghost use Rattle.examination.specs.Orders.{order_answer, order_written};
 ghost use Rattle.examination.specs.Traces.{examining, type_of, examination_of, Comes};
@@ -13,10 +14,13 @@ ghost use Rattle.examination.specs.Traces.{examining, type_of, examination_of, C
 use crate::kind::certify_by_kind;
 use calls::certificate::Certificate;
 use item::item::Item;
+use item::stamp::Stamp;
+use item::ticket::Ticket;
 use refusal::Refusal;
 use sheet::operation::{Method, Operation};
 use sheet::sheet::Sheet;
 use std::alloc::{AllocError, Global};
+use trace::fault::ReadFault;
 use trace::read::{Accepted, read};
 
 // Why there is no certificate.
@@ -34,27 +38,40 @@ impl From<AllocError> for ExamineFault {
     }
 }
 
+impl From<Refusal> for ExamineFault {
+    ghost from_gives = { λ e r. r ≡ Refused e };
+
+    fn from(refusal: Refusal) -> ExamineFault {
+        ExamineFault::Refused(refusal)
+    }
+}
+
+impl From<ReadFault> for ExamineFault {
+    ghost from_gives = { λ e r. r ≡ Refused (read_refusal e) };
+
+    fn from(fault: ReadFault) -> ExamineFault {
+        ExamineFault::Refused(fault.refusal())
+    }
+}
+
 // So many records, to be lent to a sheet. What they hold no rule decides.
 pub fn blank_records<I: Item>(heap: Global, count: usize) -> Result<Vec<Operation<I>>, AllocError>
     ensures { IfOk result (λ v. vec_len v ≡ count) }
 {
-    let mut records = Vec::new(heap);
-    while records.len() < count {
-        records.push(Operation {
-            method: Method::FoundEmpty,
-            thread: 0,
-            start: 0,
-            end: 0,
-        })?;
-    }
-    Ok(records)
+    let blank = Operation {
+        method: Method::FoundEmpty,
+        thread: 0,
+        start: 0,
+        end: 0,
+    };
+    vec![in heap; blank; count]
 }
 
 // Whether the header names stamps as its item type.
 pub fn has_stamps(bytes: &[u8]) -> bool
     ensures { result ≡ (type_of bytes.now == 1) }
 {
-    bytes.len() > 1 && bytes[1] / 16 == 1
+    bytes.get(1).is_some_and(|types| types / 16 == Stamp::TYPE)
 }
 
 // Examines an accepted trace, whose operations are on the sheet.
@@ -69,7 +86,7 @@ fn certify_accepted<'a, I: Item>(
     ensures { Comes (record { answer = order_answer (seat_of accepted.now.kind) (sheet_ops I.Item.number sheet.now) accepted.now.k (order_of accepted.now.order) (three ranks.old instants.old latenesses.old); buffers = order_written (seat_of accepted.now.kind) (sheet_ops I.Item.number sheet.now) accepted.now.k (order_of accepted.now.order) (three ranks.old instants.old latenesses.old) }) (three ranks.old instants.old latenesses.old) result (three ranks.new instants.new latenesses.new) }
 {
     let order = accepted.order.numbers(heap)?;
-    match certify_by_kind(
+    let certificate = certify_by_kind(
         sheet,
         accepted.kind,
         accepted.k,
@@ -77,10 +94,8 @@ fn certify_accepted<'a, I: Item>(
         ranks,
         instants,
         latenesses,
-    ) {
-        Ok(certificate) => Ok(certificate),
-        Err(refusal) => Err(ExamineFault::Refused(refusal)),
-    }
+    )?;
+    Ok(certificate)
 }
 
 // Examines a trace of that item type, over records.
@@ -95,10 +110,8 @@ fn certify_onto<I: Item>(
     ensures { Comes (examining I.Item (three ranks.old instants.old latenesses.old) (reading I.Item (min (length records.old) 1024) bytes.now)) (three ranks.old instants.old latenesses.old) result (three ranks.new instants.new latenesses.new) }
 {
     let mut sheet = Sheet::new(records);
-    match read(bytes, &mut sheet) {
-        Ok(accepted) => certify_accepted(heap, &sheet, &accepted, ranks, instants, latenesses),
-        Err(fault) => Err(ExamineFault::Refused(fault.refusal())),
-    }
+    let accepted = read(bytes, &mut sheet)?;
+    certify_accepted(heap, &sheet, &accepted, ranks, instants, latenesses)
 }
 
 // Examines a trace of that item type.
@@ -133,8 +146,8 @@ pub fn certify_trace(
     ensures { Comes (examination_of bytes.now (three ranks.old instants.old latenesses.old)) (three ranks.old instants.old latenesses.old) result (three ranks.new instants.new latenesses.new) }
 {
     if has_stamps(bytes) {
-        certify_of::<item::stamp::Stamp>(heap, bytes, ranks, instants, latenesses)
+        certify_of::<Stamp>(heap, bytes, ranks, instants, latenesses)
     } else {
-        certify_of::<item::ticket::Ticket>(heap, bytes, ranks, instants, latenesses)
+        certify_of::<Ticket>(heap, bytes, ranks, instants, latenesses)
     }
 }

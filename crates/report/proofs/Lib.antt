@@ -1,4 +1,4 @@
 mod Listings
 mod Verdicts
-mod Grants
 mod Sayings
+mod Traces

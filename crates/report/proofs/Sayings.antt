@@ -25,7 +25,8 @@ use Rattle.trace.specs.Reading.Outcome.{unread, refused, accepted}
 use Rattle.report.specs.declared.verdict.Report.{Report}
 use Rattle.report.specs.declared.report.ReportFault.{ReportFault}
 use Rattle.report.specs.declared.report.ReportFault.TheVariants as fault
-use Rattle.report.specs.Reports.{verdict_in, refusing, seat_of, verdict_of_order, saying}
+use Rattle.examination.specs.Kinds.{seat_of}
+use Rattle.report.specs.Reports.{verdict_in, refusing, verdict_of_order, saying}
 
 -- written back into memory as long as the trace, it is never anything else
 pub never_differs : (out bs mem : List ℕ) (r : Bool) → r ≡ not (pointwise eqb out bs) →

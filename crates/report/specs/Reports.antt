@@ -1,5 +1,5 @@
 -- What is printed of a trace.
-use Rattle.std.specs.Prelude.{ℕ, ◌/◌, ◌≤◌, Bool, true, false, cond, List, [], ◌++◌, length, Some, None, string_bytes, codes, Option, ◌==◌, slice_index}
+use Rattle.std.specs.Prelude.{ℕ, Bool, true, false, cond, List, [], ◌++◌, length, Some, None, Ok, Err, string_bytes, codes, Option, Result, ◌==◌}
 use Rattle.refusal.specs.declared.Refusal.{Refusal}
 use Rattle.refusal.specs.Wording.{refusal_line}
 use Rattle.item.specs.declared.item.Item.{Ghosts}
@@ -10,15 +10,17 @@ use Rattle.frame.specs.Faults.{frame_refusal}
 use Rattle.trace.specs.Faults.{entry_refusal}
 use Rattle.trace.specs.Reading.{Outcome, reading}
 use Rattle.trace.specs.Reading.Outcome.{unread, refused, accepted}
-use Rattle.holder.specs.Kinds.{queue_seat, stack_seat}
 use Rattle.order.specs.declared.operation.Paired.{Paired}
 use Rattle.order.specs.Steps.{SeatRule, rank_errors}
 use Rattle.order.specs.Times.{earliest}
 use Rattle.calls.specs.declared.fault.DocketFault.{DocketFault}
 use Rattle.calls.specs.declared.fault.DocketFault.TheVariants.{StepsMissing}
 use Rattle.calls.specs.Faults.{docket_refusal}
-use Rattle.calls.specs.Rules.{run_of, missing, latenesses_of, certificate_of}
+use Rattle.calls.specs.declared.certificate.Certificate.{Certificate}
+use Rattle.calls.specs.Rules.{Buffers, run_of, missing, latenesses_of, certificate_of}
 use Rattle.docket.specs.Pairs.{paired_all}
+use Rattle.examination.specs.Kinds.{seat_of}
+use Rattle.examination.specs.Traces.{type_of}
 use Rattle.report.specs.declared.verdict.Report.{Report}
 use Rattle.report.specs.Lines.{lines_of_steps, lines_of_lates, line_of_certified}
 
@@ -36,13 +38,15 @@ verdict_in p = record { text = string_bytes p.text; granted = p.granted }
 abbrev pub refusing : Refusal → Verdict
 refusing r = record { text = refused_text r; granted = false }
 
--- a buffer with an entry for each operation and each step of an order
-abbrev pub Room : {I : Type 0} → List (Operation I) → List ℕ → List ℕ → Type 0
-Room os p b = (length os ≤ length b) × (length p ≤ length b)
+module _ {I : Type 0} (os : List (Operation I)) (k : ℕ) (p : List ℕ) where
+  -- what is printed of a certificate: the steps of the order, the latenesses of the adds, and the sums
+  abbrev pub granting : Certificate → Buffers → Verdict
+  granting c b = record { text = lines_of_steps p b.ranks b.instants ++ (lines_of_lates os b.latenesses ++ line_of_certified k c); granted = true }
 
--- the seat rule of a kind: 1 is the stack, 0 and 2 are queues
-abbrev pub seat_of : ℕ → SeatRule
-seat_of kind = cond (kind == 1) stack_seat queue_seat
+  -- what is printed of the answer to an order, from the buffers as it left them
+  abbrev pub answering : Result Certificate Refusal → Buffers → Verdict
+  answering (Ok c) b = granting c b
+  answering (Err r) b = refusing r
 
 module _ {I : Type 0} (t : Ghosts I) where
   module _ (seat : SeatRule) (os : List (Operation I)) (k : ℕ) where
@@ -73,10 +77,6 @@ module _ {I : Type 0} (t : Ghosts I) where
   saying (unread e) = refusing (frame_refusal e)
   saying (refused os i e) = refusing (entry_refusal i e)
   saying (accepted c) = verdict_of_order (seat_of c.kind) c.ops c.k c.order
-
--- the item type that a header names; 0 where there is none
-abbrev pub type_of : List ℕ → ℕ
-type_of bs = slice_index bs 1 / 16
 
 -- type 1 goes to the reader of stamps, every other trace to that of tickets; there is room for 1,024 operations
 abbrev pub report_on : List ℕ → Verdict

@@ -1,10 +1,10 @@
 ghost use Rattle.std.specs.Prelude.{◌≡◌, ◌≤◌, length, IfOk, string_bytes};
 ghost use Rattle.sheet.specs.Sheets.{entered};
-ghost use Rattle.report.specs.Lines.{lines_of_steps, lines_of_lates, late_of_method};
+ghost use Rattle.report.specs.Lines.{lines_of_steps, lines_of_lates};
 
-use crate::line::{late_line, step_line};
+use crate::line::{LateLine, StepLine};
 use item::item::Item;
-use sheet::operation::{Method, Operation};
+use sheet::operation::Method;
 use sheet::sheet::Sheet;
 use std::alloc::{AllocError, Global};
 
@@ -20,27 +20,16 @@ pub(crate) fn step_lines(
     ensures { IfOk result (λ s. string_bytes s ≡ lines_of_steps order.now ranks.now instants.now) }
 {
     let mut text = String::new(heap);
-    for step in 0..order.len() {
-        let line = step_line(heap, step, order[step], ranks[step], instants[step])?;
-        text.push_str(line.as_str())?;
+    for (step, ((operation, rank), at)) in order.iter().zip(ranks).zip(instants).enumerate() {
+        let line = StepLine {
+            step,
+            operation: *operation,
+            rank: *rank,
+            at: *at,
+        };
+        write!(text, "{line}")?;
     }
     Ok(text)
-}
-
-// The line of an add; nothing of another method.
-fn late_of<I: Item>(
-    heap: Global,
-    number: usize,
-    op: &Operation<I>,
-    late: u16,
-) -> Result<String, AllocError>
-    ensures { IfOk result (λ s. string_bytes s ≡ late_of_method number late op.now.method) }
-{
-    match op.method {
-        Method::Add(_) => late_line(heap, number, late),
-        Method::Take(_) => Ok(String::new(heap)),
-        Method::FoundEmpty => Ok(String::new(heap)),
-    }
 }
 
 // A line for each add of the sheet, in the order of their numbers.
@@ -53,10 +42,13 @@ pub(crate) fn late_lines<I: Item>(
     ensures { IfOk result (λ s. string_bytes s ≡ lines_of_lates (entered sheet.now) latenesses.now) }
 {
     let mut text = String::new(heap);
-    for number in 0..sheet.count() {
-        if let Some(op) = sheet.operation(number) {
-            let line = late_of(heap, number, &op, latenesses[number])?;
-            text.push_str(line.as_str())?;
+    for (number, (op, late)) in sheet.all().iter().zip(latenesses).enumerate() {
+        if let Method::Add(_) = op.method {
+            let line = LateLine {
+                number,
+                late: *late,
+            };
+            write!(text, "{line}")?;
         }
     }
     Ok(text)

@@ -1,20 +1,22 @@
-ghost use Rattle.std.specs.Prelude.{◌≡◌, ℕ, min, length, IfOk, Some, vec_len, MatchResult};
+ghost use Rattle.std.specs.Prelude.{◌≡◌, ℕ, min, true, ◌⊎◌, length, IfOk, Some, MatchResult};
+ghost use Rattle.item.specs.Tickets.{ticket_items};
+ghost use Rattle.item.specs.Stamps.{stamp_items};
 ghost use Rattle.sheet.specs.Sheets.{entered};
 ghost use Rattle.std.specs.Option.{option_map};
 ghost use Rattle.frame.specs.Orders.{order_of};
 ghost use Rattle.trace.specs.Faults.{copy_refusal};
 ghost use Rattle.trace.specs.Reading.{reading};
+ghost use Rattle.examination.specs.Kinds.{seat_of};
+ghost use Rattle.examination.specs.Traces.{TrueTrace};
 ghost use Rattle.report.specs.declared.report.ReportFault.TheVariants.{NoMemory};
-ghost use Rattle.report.specs.Reports.{verdict_in, refusing, seat_of, verdict_of_order, saying, report_on};
+ghost use Rattle.report.specs.Reports.{verdict_in, refusing, verdict_of_order, saying, report_on};
 
-use crate::verdict::{Report, refused, verdict};
-use counting::queue::CountingQueue;
-use holder::queue::Queue;
-use holder::stack::Stack;
+use crate::verdict::{Report, refused, verdict_by_kind};
+use examination::examining::{blank_records, has_stamps};
 use item::item::Item;
 use item::stamp::Stamp;
 use item::ticket::Ticket;
-use sheet::operation::{Method, Operation};
+use sheet::operation::Operation;
 use sheet::sheet::Sheet;
 use std::alloc::{AllocError, Global};
 use trace::copy::copy;
@@ -37,23 +39,6 @@ impl From<AllocError> for ReportFault {
     }
 }
 
-// What is said of an order by the strict object of that kind: 0 the queue, 1 the stack, 2 the queue by counting.
-fn verdict_by_kind<I: Item>(
-    heap: Global,
-    sheet: &Sheet<I>,
-    kind: u8,
-    k: u16,
-    order: &[u16],
-) -> Result<Report, AllocError>
-    ensures { IfOk result (λ p. verdict_in p ≡ verdict_of_order I.Item (seat_of kind) (entered sheet.now) k order.now) }
-{
-    match kind {
-        0 => verdict::<I, Queue>(heap, sheet, Queue::new(), k, order),
-        1 => verdict::<I, Stack>(heap, sheet, Stack::new(), k, order),
-        _ => verdict::<I, CountingQueue>(heap, sheet, CountingQueue::new(), k, order),
-    }
-}
-
 // What is said of an accepted trace, whose operations are on the sheet.
 fn examined<I: Item>(
     heap: Global,
@@ -70,10 +55,8 @@ fn examined<I: Item>(
 fn faulted(heap: Global, fault: CopyFault) -> Result<Report, ReportFault>
     ensures { MatchResult result (λ p. Some (verdict_in p) ≡ option_map refusing (copy_refusal fault)) (λ e. e ≡ NoMemory) }
 {
-    match fault.refusal() {
-        Some(refusal) => Ok(refused(heap, refusal)?),
-        None => Err(ReportFault::NoMemory),
-    }
+    let refusal = fault.refusal().ok_or(ReportFault::NoMemory)?;
+    Ok(refused(heap, refusal)?)
 }
 
 // The report of a trace of that item type, over records and memory to write it back into.
@@ -98,36 +81,22 @@ fn report_onto<I: Item>(
     }
 }
 
-// Records for as many operations as a trace can have.
-fn blank_records<I: Item>(heap: Global) -> Result<Vec<Operation<I>>, AllocError>
-    ensures { IfOk result (λ v. vec_len v ≡ 1024) }
-{
-    let mut records = Vec::new(heap);
-    while records.len() < 1024 {
-        records.push(Operation {
-            method: Method::FoundEmpty,
-            thread: 0,
-            start: 0,
-            end: 0,
-        })?;
-    }
-    Ok(records)
-}
-
 // The report of a trace of that item type.
 fn report_of<I: Item>(heap: Global, bytes: &[u8]) -> Result<Report, ReportFault>
     ensures { MatchResult result (λ p. verdict_in p ≡ saying I.Item (reading I.Item 1024 bytes.now)) (λ e. e ≡ NoMemory) }
 {
-    let mut records = blank_records::<I>(heap)?;
+    let mut records = blank_records::<I>(heap, 1024)?;
     let mut out = vec![in heap; 0u8; bytes.len()]?;
     report_onto(heap, bytes, records.as_mut_slice(), out.as_mut_slice())
 }
 
-// The report of a trace: its order's certificate, or the one line of its refusal.
+// The report of a trace: its order's certificate, or the one line of its refusal. A certificate is granted exactly to the
+// bytes of a true trace, of tickets or of stamps.
 pub fn report_trace(heap: Global, bytes: &[u8]) -> Result<Report, ReportFault>
-    ensures { MatchResult result (λ p. verdict_in p ≡ report_on bytes.now) (λ e. e ≡ NoMemory) }
+    ensures granted_exactly_when_true_order { IfOk result (λ p. (p.granted ≡ true → TrueTrace ticket_items bytes.now ⊎ TrueTrace stamp_items bytes.now) × (TrueTrace ticket_items bytes.now ⊎ TrueTrace stamp_items bytes.now → p.granted ≡ true)) }
+    ensures said { MatchResult result (λ p. verdict_in p ≡ report_on bytes.now) (λ e. e ≡ NoMemory) }
 {
-    if bytes.len() > 1 && bytes[1] / 16 == 1 {
+    if has_stamps(bytes) {
         report_of::<Stamp>(heap, bytes)
     } else {
         report_of::<Ticket>(heap, bytes)

@@ -1,20 +1,54 @@
-use Rattle.std.proofs.Common.{◌++◌, get_or, string_bytes, sym, ap, ◌∙◌}
+use Rattle.std.proofs.Common.{◌≡◌, ◌≤◌, ◌++◌, length, drop, get_or, string_bytes, sym, ap, ◌∙◌, ⊎_elim, arith}
+use Rattle.std.specs.Iterator.Adapters.{enumerate_count}
 use Rattle.sheet.specs.Sheets.{entered}
-use Rattle.report.specs.Lines.{late_at, late_of}
-use Rattle.report.proofs.Listings.{one_more, none_more}
+use Rattle.report.specs.Lines.{up_to, line_of_late, late_of, late_of_method, late_at}
+use Rattle.report.proofs.Listings.{one_more, none_more, taken, at_end, not_added}
 use Rattle.report.proofs.lines.late_lines.Goals as goal
-use Rattle.report.proofs.lines.late_lines.Goals.{in-Some+in_ok-line+in_ok-push_str, in_default}
+
+pub loop-number-preserved-in-Continue-1 : goal.loop-number-preserved-in-Continue-1
+loop-number-preserved-in-Continue-1 g c =
+    let os = entered c.args.sheet.now in
+    let lates = c.args.latenesses.now in
+    let i = c.loop-number.invariant in
+    let s = c.in-Some.ensures.steps in
+    let n = enumerate_count c.loop-number.number-iterator in
+    let o = taken os _ n c.in-Some.op.now (sym i.operations ∙ s.0.0) in
+    let t = taken lates _ n c.in-Some.late.now (sym i.latenesses ∙ s.0.1) in
+    record {
+      operations = o.left ∙ ap (λ m. drop m (entered c.args.sheet.now)) (sym s.2);
+      latenesses = t.left ∙ ap (λ m. drop m c.args.latenesses.now) (sym s.2);
+      within = omega (arith, o.below, s.2);
+      said = one_more (late_at os lates) n (string_bytes c.loop-number.text) i.said (string_bytes c.write.new.self) (line_of_late n c.in-Some.late.now)
+          (ap (late_of n (get_or lates n 0)) o.got ∙ ap (λ m. late_of_method n m c.in-Some.op.now.method) (t.at 0) ∙ ap (late_of_method n c.in-Some.late.now) c.in-Add.is)
+          (c.in_ok-write.ensures.bytes ∙ ap (λ m. string_bytes c.loop-number.text ++ line_of_late m c.in-Some.late.now) s.1)
+          ∙ ap (λ m. up_to m (late_at (entered c.args.sheet.now) c.args.latenesses.now)) (sym s.2);
+    }
 
 pub loop-number-preserved : goal.loop-number-preserved
 loop-number-preserved g c =
     let os = entered c.args.sheet.now in
     let lates = c.args.latenesses.now in
-    let n = c.loop-number.number in
-    let text = string_bytes c.loop-number.text in
-    elim c.match-operation.branch [
-      | in-Some+in_ok-line+in_ok-push_str w ↦
-          one_more (late_at os lates) n text c.loop-number.invariant (string_bytes c.match-operation.text) (string_bytes w.in_ok-line.line)
-          (ap (late_of n (get_or lates n 0)) (sym w.in-Some.ensures) ∙ sym w.in_ok-line.ensures)
-          (ap string_bytes w.text-is ∙ w.in_ok-push_str.ensures.bytes ∙ ap (λ z. text ++ z) w.as_str.ensures.value)
-      | in_default w ↦ ap string_bytes w.text-is ∙ none_more (late_at os lates) n text c.loop-number.invariant (ap (late_of n (get_or lates n 0)) (sym w.in_default.ensures))
-    ]
+    let i = c.loop-number.invariant in
+    let s = c.in-Some.ensures.steps in
+    let n = enumerate_count c.loop-number.number-iterator in
+    let o = taken os _ n c.in-Some.op.now (sym i.operations ∙ s.0.0) in
+    let t = taken lates _ n c.in-Some.late.now (sym i.latenesses ∙ s.0.1) in
+    record {
+      operations = o.left ∙ ap (λ m. drop m (entered c.args.sheet.now)) (sym s.2);
+      latenesses = t.left ∙ ap (λ m. drop m c.args.latenesses.now) (sym s.2);
+      within = omega (arith, o.below, s.2);
+      said = none_more (late_at os lates) n (string_bytes c.loop-number.text) i.said
+          (ap (late_of n (get_or lates n 0)) o.got ∙ not_added n (get_or lates n 0) c.in-Some.op.now.method c.in_default.not-Add)
+          ∙ ap (λ m. up_to m (late_at (entered c.args.sheet.now) c.args.latenesses.now)) (sym s.2);
+    }
+
+pub returns : goal.returns
+returns g c =
+    let i = c.loop-number.invariant in
+    let n = enumerate_count c.loop-number.number-iterator in
+    let all : length (entered c.args.sheet.now) ≤ enumerate_count c.loop-number.number-iterator =
+    ⊎_elim (λ x. at_end (entered c.args.sheet.now) _ n i.operations x.1.0)
+    (λ x. let z = at_end c.args.latenesses.now _ n i.latenesses x.1.0 in omega (arith, c.requires))
+    c.in-None.ensures.steps.0 in
+    let end : enumerate_count c.loop-number.number-iterator ≡ length (entered c.args.sheet.now) = omega (arith, i.within) in
+    i.said ∙ ap (λ m. up_to m (late_at (entered c.args.sheet.now) c.args.latenesses.now)) end
