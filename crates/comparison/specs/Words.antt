@@ -1,11 +1,10 @@
 -- The words of an answer.
-use Rattle.std.specs.Prelude.{ℕ, List, ◌++◌, Ok, Err, codes, decimal, Result}
+use Rattle.std.specs.Prelude.{ℕ, List, ◌++◌, Some, None, Ok, Err, codes, decimal, Option, Result}
 use Rattle.refusal.specs.Wording.{refusal_line}
 use Rattle.item.specs.declared.fault.ItemFault.{ItemFault}
 use Rattle.item.specs.Faults.{item_refusal}
 use Rattle.holder.specs.Faults.{fault_number}
-use Rattle.turns.specs.declared.calls.HolderAnswer.{HolderAnswer}
-use Rattle.turns.specs.declared.calls.HolderAnswer.TheVariants.{Done, Number, Refused}
+use Rattle.holder.specs.declared.fault.HolderFault.{HolderFault}
 use Rattle.calls.specs.declared.fault.DocketFault.{DocketFault}
 use Rattle.calls.specs.declared.fault.RefusalCode.{RefusalCode}
 use Rattle.calls.specs.declared.certificate.Certificate.{Certificate}
@@ -26,10 +25,10 @@ words_of_certify (Ok c) hash = codes "certified " ++ (decimal c.total ++ (codes 
 words_of_certify (Err e) hash = refusal_line (docket_refusal e) ++ (codes " " ++ decimal hash)
 
 -- what a holder answers
-abbrev pub words_of_holder : HolderAnswer → List ℕ
-words_of_holder Done = codes "done"
-words_of_holder (Number n) = decimal n
-words_of_holder (Refused f) = codes "!" ++ decimal (fault_number f)
+abbrev pub words_of_holder : Result (Option ℕ) HolderFault → List ℕ
+words_of_holder (Ok None) = codes "done"
+words_of_holder (Ok (Some n)) = decimal n
+words_of_holder (Err f) = codes "!" ++ decimal (fault_number f)
 
 -- an item's number, or the refusal
 abbrev pub words_of_item : Result ℕ ItemFault → List ℕ

@@ -8,12 +8,14 @@ use counting::queue::CountingQueue;
 use docket::attend::attend;
 use docket::slot::Slot;
 use examination::examining::{blank_records, has_stamps};
+use frame::kind::Kind;
 use frame::order::Order;
 use holder::holder::Holder;
 use holder::queue::Queue;
 use holder::stack::Stack;
 use item::item::Item;
 use record::bytes::number_at;
+use refusal::Refusal;
 use sheet::sheet::Sheet;
 use std::alloc::{AllocError, Global};
 use trace::read::read;
@@ -44,11 +46,7 @@ fn slot_of(heap: Global, call: &[u8]) -> Result<Slot, AllocError> {
         1 => Ok(Slot::Run {
             order: Order::new(&call[3.min(call.len())..]).numbers(heap)?,
             new: 0,
-            stopped: RefusalCode {
-                number: 0,
-                place: 0,
-                detail: 0,
-            },
+            stopped: RefusalCode::from(None),
         }),
         2 => Ok(Slot::Lift {
             answer: Err(unanswered),
@@ -134,7 +132,7 @@ fn attended<I: Item, H: Holder + Drop>(
 // The answers to the calls on a docket of the trace's operations.
 fn on_trace<I: Item>(
     heap: Global,
-    kind: u8,
+    kind: Kind,
     k: u16,
     trace: &[u8],
     calls: &[u8],
@@ -142,13 +140,13 @@ fn on_trace<I: Item>(
     let mut records = blank_records::<I>(heap, 1024)?;
     let mut sheet = Sheet::new(records.as_mut_slice());
     if let Err(fault) = read(trace, &mut sheet) {
-        let refusal = fault.refusal();
+        let refusal = Refusal::from(fault);
         return format!(in heap; "docket unread {refusal}");
     }
     match kind {
-        0 => attended::<I, Queue>(heap, &sheet, Queue::new(), k, calls),
-        1 => attended::<I, Stack>(heap, &sheet, Stack::new(), k, calls),
-        _ => attended::<I, CountingQueue>(heap, &sheet, CountingQueue::new(), k, calls),
+        Kind::Queue => attended::<I, Queue>(heap, &sheet, Queue::new(), k, calls),
+        Kind::Stack => attended::<I, Stack>(heap, &sheet, Stack::new(), k, calls),
+        Kind::CountingQueue => attended::<I, CountingQueue>(heap, &sheet, CountingQueue::new(), k, calls),
     }
 }
 
@@ -159,12 +157,13 @@ pub(crate) fn docket_answer(heap: Global, body: &[u8]) -> Result<Option<String>,
     if body.len() < 7 || body.len() - 7 < length {
         return Ok(None);
     }
+    let kind = Kind::try_from(body[0]).unwrap_or(Kind::CountingQueue);
     let trace = &body[7..7 + length];
     let calls = &body[7 + length..];
     let text = if has_stamps(trace) {
-        on_trace::<item::stamp::Stamp>(heap, body[0], k, trace, calls)?
+        on_trace::<item::stamp::Stamp>(heap, kind, k, trace, calls)?
     } else {
-        on_trace::<item::ticket::Ticket>(heap, body[0], k, trace, calls)?
+        on_trace::<item::ticket::Ticket>(heap, kind, k, trace, calls)?
     };
     Ok(Some(text))
 }

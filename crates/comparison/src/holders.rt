@@ -3,6 +3,7 @@ ghost use Rattle.std.specs.Prelude.{◌<◌, length, Some, None};
 
 use crate::words::holder_words;
 use counting::queue::CountingQueue;
+use frame::kind::Kind;
 use holder::holder::Holder;
 use holder::queue::Queue;
 use holder::stack::Stack;
@@ -50,14 +51,13 @@ fn answers_of<H: Holder>(heap: Global, holder: &mut H, calls: &[u8]) -> Result<S
 
 // The answer to a case of calls on a holder, or none where it is no such case.
 pub(crate) fn holder_answer(heap: Global, body: &[u8]) -> Result<Option<String>, AllocError> {
-    if body.len() == 0 {
+    let Some((kind, calls)) = body.split_first() else {
         return Ok(None);
-    }
-    let calls = &body[1..];
-    let text = match body[0] {
-        0 => answers_of::<Queue>(heap, &mut Queue::new(), calls)?,
-        1 => answers_of::<Stack>(heap, &mut Stack::new(), calls)?,
-        _ => answers_of::<CountingQueue>(heap, &mut CountingQueue::new(), calls)?,
+    };
+    let text = match Kind::try_from(*kind).unwrap_or(Kind::CountingQueue) {
+        Kind::Queue => answers_of(heap, &mut Queue::new(), calls)?,
+        Kind::Stack => answers_of(heap, &mut Stack::new(), calls)?,
+        Kind::CountingQueue => answers_of(heap, &mut CountingQueue::new(), calls)?,
     };
     Ok(Some(text))
 }

@@ -17,7 +17,7 @@ fn packed_again<I: Item>(number: u64) -> Result<u64, ItemFault>
 
 // The number of the lane of a number.
 fn lane_again(number: u8) -> Result<u64, ItemFault> {
-    Ok(Lane::new(number)?.number() as u64)
+    Ok(u64::from(u8::from(Lane::try_from(number)?)))
 }
 
 // The answer to a case of an item, or none where it is no such case.

@@ -39,11 +39,11 @@ fn reading_words<I: Item>(
 ) -> Result<String, AllocError> {
     let answer = match read(bytes, sheet) {
         Ok(accepted) => {
-            let kind = accepted.kind;
+            let kind = u8::from(accepted.kind);
             let k = accepted.k;
             format!(in heap; "accepted kind {kind} k {k}")?
         }
-        Err(fault) => refusal_words(heap, fault.refusal())?,
+        Err(fault) => refusal_words(heap, Refusal::from(fault))?,
     };
     let count = sheet.count();
     let hash = sheet_hash(sheet);
@@ -90,7 +90,7 @@ fn written_words(
     match answer {
         Ok(_) => format!(in heap; "write done {hash}"),
         Err(fault) => {
-            let refusal = fault.refusal();
+            let refusal = Refusal::from(fault);
             format!(in heap; "write {refusal} {hash}")
         }
     }
@@ -108,7 +108,7 @@ fn writing<I: Item>(
     let mut records = blank_records::<I>(heap, 1024)?;
     let mut sheet = Sheet::new(records.as_mut_slice());
     if let Err(fault) = read(trace, &mut sheet) {
-        let refusal = fault.refusal();
+        let refusal = Refusal::from(fault);
         return format!(in heap; "write unread {refusal}");
     }
     let mut memory = vec![in heap; 0xa5u8; size]?;

@@ -27,7 +27,7 @@ pub(crate) fn number_words(
 {
     match answer {
         Ok(number) => format!(in heap; "{word} {number}"),
-        Err(fault) => refusal_words(heap, fault.refusal()),
+        Err(fault) => refusal_words(heap, Refusal::from(fault)),
     }
 }
 
@@ -57,7 +57,7 @@ pub(crate) fn certify_words(
             format!(in heap; "certified {total} {largest} {first} {hash}")
         }
         Err(fault) => {
-            let refusal = fault.refusal();
+            let refusal = Refusal::from(fault);
             format!(in heap; "{refusal} {hash}")
         }
     }
@@ -68,10 +68,10 @@ pub(crate) fn holder_words(heap: Global, answer: HolderAnswer) -> Result<String,
     ensures { IfOk result (λ s. string_bytes s ≡ words_of_holder answer) }
 {
     match answer {
-        HolderAnswer::Done => format!(in heap; "done"),
-        HolderAnswer::Number(number) => format!(in heap; "{number}"),
-        HolderAnswer::Refused(fault) => {
-            let number = fault.refusal().number;
+        Ok(None) => format!(in heap; "done"),
+        Ok(Some(number)) => format!(in heap; "{number}"),
+        Err(fault) => {
+            let number = Refusal::from(fault).number;
             format!(in heap; "!{number}")
         }
     }
