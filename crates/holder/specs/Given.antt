@@ -3,7 +3,7 @@ use Rattle.std.proofs.Common.{ℕ, ◌-◌, [], ◌∷◌, reverse, refl, sym, a
 use Rattle.std.proofs.lemmas.List.{length-reverse, get_or-reverse, reverse-append, length-take-le}
 use Rattle.std.proofs.lemmas.List.Edits.{insert_end}
 use Rattle.giving.proofs.Counts.{times_reverse, once_fewer, below_fewer}
-use Rattle.giving.proofs.Places.{place_reverse, without_reverse}
+use Rattle.giving.proofs.Places.{stands_same, place_reverse, without_reverse}
 use Rattle.holder.specs.declared.row.Row.{Row}
 use Rattle.holder.specs.Answers.{Sound}
 use Rattle.holder.specs.Ends.{EndLaws}
@@ -15,6 +15,7 @@ front_laws = record {
   seated = λ L c. omega arith;
   as_long = λ L. refl;
   as_often = λ c L. refl;
+  as_held = λ c L. refl;
   grown = λ L c. sym (insert_end L c);
   left = λ c L o. refl;
   ranked = λ c L o h. refl;
@@ -26,6 +27,7 @@ back_laws = record {
   seated = λ L c. omega arith;
   as_long = λ L. length-reverse L;
   as_often = times_reverse;
+  as_held = λ c L. stands_same c (reverse L) L (times_reverse c L);
   grown = λ L c. reverse-append L (c ∷ []);
   left = λ c L o. sym (without_reverse c L o);
   ranked = place_reverse;

@@ -4,7 +4,7 @@ ghost use Rattle.holder.specs.Given.{front_laws};
 
 use crate::line::{End, Line};
 
-// The giving list is the row itself.
+// The front of the row: the giving list is the row itself.
 pub struct Front;
 
 impl End for Front {

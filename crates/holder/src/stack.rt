@@ -5,7 +5,7 @@ ghost use Rattle.holder.specs.Given.{back_laws};
 
 use crate::line::{End, Line};
 
-// The giving list is the row, read from its end.
+// The back of the row: the giving list is the row, read from its end.
 pub struct Back;
 
 impl End for Back {
