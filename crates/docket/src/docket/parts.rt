@@ -7,6 +7,7 @@ use holder::holder::Holder;
 use order::operation::Deed;
 
 // The rank error of a step, where it has one: the holder says it.
+#[tactic(auto, unfolding(crate::specs::Moves::rank_found))]
 pub(crate) fn rank_of<H: Holder>(holder: &H, deed: Deed) -> Option<u16>
     ensures { result ≡ rank_found deed (H.Holder.giving holder.now) }
 {

@@ -13,6 +13,7 @@ use holder::holder::Holder;
 
 impl<H: Holder> Docket<H> {
     // What placing the operation is answered: the rules in their order.
+    #[tactic(auto, unfolding(crate::specs::Moves::judged))]
     fn judge(&self, operation: u16) -> Result<u16, DocketFault>
         ensures { result ≡ judged self.now.ledger.placed self.now.ledger.count operation self.now.ledger.k (entry_of self.now.ledger.entries operation).placed (lowest (waits self.now.ledger.entries (entry_of self.now.ledger.entries operation).paired.start) 0 self.now.ledger.count) (rank_found (entry_of self.now.ledger.entries operation).paired.deed (H.Holder.giving self.now.holder)) }
     {

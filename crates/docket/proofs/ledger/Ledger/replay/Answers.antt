@@ -11,12 +11,6 @@ use Rattle.docket.proofs.ledger.Ledger.replay.Goals as goal
 pub bounds-self-placed : goal.bounds-self-placed
 bounds-self-placed g c = omega (arith, order_known c.args.self.now c.order-order.result.now c.order-order.ensures.steps c.loop-placed.placed-index (omega arith))
 
-pub loop-placed-init : goal.loop-placed-init
-loop-placed-init g c =
-    let l = c.args.self.now in
-    let e : ◌≡◌ {A = Stand} (record { list = g.H.Holder.giving c.clear.new.self; many = g.H.Holder.adds c.clear.new.self }) (record { list = []; many = 0 }) = let a = c.clear.ensures.list in let b = c.clear.ensures.count in cc in
-    ap (λ (s : Stand). replayed g.H.Holder.seat l.entries s (steps_of l)) e
-
 -- one more step
 turn : (seat : SeatRule) (l : Ledger) (s t : Stand) (i : ℕ) → i < l.placed
     → (x : ℕ) → x ≡ get_or (steps_of l) i 0 → t ≡ stepped seat x (entry_of l.entries x).paired.deed s

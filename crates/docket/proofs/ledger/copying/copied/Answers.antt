@@ -39,19 +39,3 @@ loop-number-preserved g c =
       (λ x. ap (λ (fs : List Entry). (entry_of fs x).placed) put ∙ keeps_fresh (λ (f : Entry). f.placed) false es i x q refl (v.2 x)),
       (λ x. ap (λ (fs : List Entry). (entry_of fs x).late) put ∙ keeps_fresh {Y = ℕ} (λ (f : Entry). f.late) 0 es i x q refl (v.3 x)),
     )
-
-pub returns : goal.returns
-returns g c =
-    let es = c.loop-number.entries in
-    let os = entered c.args.sheet.now in
-    let i = c.loop-number.number in
-    let qs = paired_all g.I.Item.number os in
-    let size = length-map os (paired_of g.I.Item.number os) in
-    let long = ap length c.all-operations.ensures.entered in
-    let e : length c.all-operations.result.now ≡ i = omega arith in
-    record {
-      table = ap (λ (m : ℕ). take m (map paired_in es)) e ∙ c.loop-number.invariant.1 ∙ take_all i qs (omega arith);
-      lates = c.loop-number.invariant.3;
-      placed = refl;
-      bound = refl;
-    }
