@@ -14,12 +14,12 @@ use Rattle.sheet.specs.Consistency.{Same, New, Consistent}
 use Rattle.sheet.specs.Entering.{enter_answer, unless_repeated}
 
 not_there : (b : Bool) (k : ℕ) (r : Option ℕ) → cond b (Some k) r ≡ None → (b ≡ false) × (r ≡ None)
-not_there true k r e = let z : ◌≡◌ {A = ℕ} 0 1 = cc in absurd (omega arith)
+not_there true k r e = cc
 not_there false k r e = (refl, e)
 
 no_other : {I : Type 0} (m : Method I) (n at : ℕ) (r : Option ℕ) → unless_repeated m n r ≡ Ok at → r ≡ None
 no_other m n at None e = refl
-no_other m n at (Some k) e = let z : ◌≡◌ {A = ℕ} 0 1 = cc in absurd (omega arith)
+no_other m n at (Some k) e = cc
 
 module _ {I : Type 0} (number : I → ℕ) where
   unlike : (x y : Method I) → alike number x y ≡ false → Same x y → ⊥

@@ -10,8 +10,8 @@ use Rattle.sheet.specs.Pairing.{AddsItem, IsAdd, LowestAdd}
 module _ {I : Type 0} (number : I → ℕ) (x : I) where
   adds_alike : (m : Method I) → alike number m (Add x) ≡ true → AddsItem number (number x) m
   adds_alike (Add y) e = grind (arith, nat_tests)
-  adds_alike (Take y) e = let z : ◌≡◌ {A = ℕ} 0 1 = cc in absurd (omega arith)
-  adds_alike FoundEmpty e = let z : ◌≡◌ {A = ℕ} 0 1 = cc in absurd (omega arith)
+  adds_alike (Take y) e = cc
+  adds_alike FoundEmpty e = cc
 
   adds_unlike : (m : Method I) → alike number m (Add x) ≡ false → AddsItem number (number x) m → ⊥
   adds_unlike (Add y) e h = grind (arith, nat_tests)

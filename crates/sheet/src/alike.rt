@@ -5,6 +5,7 @@ use crate::operation::{Method, Operation};
 use item::item::Item;
 
 // Whether two methods both add, or both take, the same item.
+// Kept (rule of the project): a derived == would not go through the item's own `same`.
 pub fn are_alike<I: Item>(one: &Method<I>, other: &Method<I>) -> bool
     ensures { result ≡ alike I.Item.number one.now other.now }
 {
