@@ -1,5 +1,5 @@
 -- Taking the records of a trace in turn.
-use Rattle.std.proofs.Common.{◌≡◌, ℕ, zero, suc, ◌+◌, ◌-◌, ◌*◌, ◌<◌, ◌≤◌, List, [], ◌∷◌, ◌++◌, length, take, drop, Ok, Err, Result, sym, refl, ap, ◌∙◌, subst, append_assoc, append-nil, add-zero, suc-add, mul-zero, zero-add, mul-suc, add-one, arith, length-append, length-drop, length-take, take_at, take-add, drop_at}
+use Rattle.std.proofs.Common.{◌≡◌, ℕ, zero, suc, ◌+◌, ◌-◌, ◌*◌, ◌<◌, ◌≤◌, List, [], ◌∷◌, ◌++◌, length, get_or, take, drop, Ok, Err, Result, sym, refl, ap, ◌∙◌, subst, append_assoc, append-nil, add-zero, suc-add, mul-zero, zero-add, mul-suc, add-one, arith, length-append, length-drop, length-take, take_at, take-add, drop_at}
 use Rattle.std.proofs.lemmas.List.{drop-drop, flat_map_more, length_push}
 use Rattle.std.specs.List.{flat_map}
 use Rattle.std.specs.Result.{result_map_both}
@@ -16,7 +16,8 @@ use Rattle.record.proofs.Digits.{bytes_take, bytes_drop}
 use Rattle.record.proofs.Codec.{length_record, record_there, record_back}
 use Rattle.trace.specs.declared.fault.EntryFault.{EntryFault}
 use Rattle.trace.specs.declared.fault.RefusedRecord.{RefusedRecord}
-use Rattle.frame.specs.Layout.{record_at}
+use Rattle.frame.specs.Layout.{record_count, record_at, records_in}
+use Rattle.frame.proofs.RecordPlaces.{length_records, record_in_turn}
 use Rattle.trace.specs.Answers.{left_at, left_by}
 use Rattle.trace.specs.Reading.{Run, if_entered, if_decoded, after, taken, next, run}
 use Rattle.trace.specs.Reading.Run.{going, stopped}
@@ -37,6 +38,14 @@ record_add bs i =
     ap (λ n. take n (drop 8 bs)) e ∙ take-add (24 * i) 24 (drop 8 bs)
     ∙ ap (λ z. take (24 * i) (drop 8 bs) ++ take 24 z) (drop-drop (24 * i) 8 bs)
 
+-- a record's answer, with the place where it is refused
+abbrev pub placed : ℕ → Result (Unit {0}) EntryFault → Result (Unit {0}) RefusedRecord
+placed i = result_map_both (λ u. u) (λ e. record { place = i; fault = e })
+
+left_placed : {I : Type 0} (i : ℕ) (r : Result (Unit {0}) EntryFault) (os : List (Operation I)) → left_at i r os ≡ left_by (placed i r) os
+left_placed i (Ok u) os = refl
+left_placed i (Err e) os = refl
+
 module _ {I : Type 0} (t : Ghosts I) (room : ℕ) (bs : List ℕ) where
   -- once stopped, always stopped
   stays : (d i j : ℕ) (os : List (Operation I)) (e : EntryFault) → run t room bs i ≡ stopped os j e → run t room bs (d + i) ≡ stopped os j e
@@ -51,24 +60,23 @@ module _ {I : Type 0} (t : Ghosts I) (room : ℕ) (bs : List ℕ) where
   one_more i os rec r p q s =
       ap (run t room bs) (add-one i) ∙ ap (next t room bs i) p ∙ ap (λ z. after os i (taken t room os z)) (sym q) ∙ s
 
-  -- a turn of the loop, on a sheet whose room is as it was
-  pub turn : (i room' : ℕ) (os : List (Operation I)) (rec : List ℕ) (r : Run I) → run t room bs i ≡ going os → room' ≡ room →
-      rec ≡ record_at i bs → after os i (taken t room' os rec) ≡ r → run t room bs (i + 1) ≡ r
-  turn i room' os rec r p same q s = one_more i os rec r p q (ap (λ m. after os i (taken t m os rec)) (sym same) ∙ s)
+  -- a turn of the loop over the records, on a sheet whose room is as it was
+  module _ (i room' : ℕ) (recs : List (List ℕ)) (os fin : List (Operation I)) (r : Result (Unit {0}) EntryFault) (all : recs ≡ records_in bs)
+      (inside : i < length recs) (before : run t room bs i ≡ going os) (same : room' ≡ room)
+      (step : (j : ℕ) → after os j (taken t room' os (get_or recs i [])) ≡ left_at j r fin) where
+    counted : i < record_count bs
+    counted = let l = ap length all ∙ length_records bs in omega arith
 
-  pub turned_away : (i n j room' : ℕ) (os fin : List (Operation I)) (rec : List ℕ) (e : EntryFault) → run t room bs i ≡ going os → room' ≡ room →
-      rec ≡ record_at i bs → after os i (taken t room' os rec) ≡ stopped fin j e → i < n → run t room bs n ≡ stopped fin j e
-  turned_away i n j room' os fin rec e p same q s h =
-      let k : n - (i + 1) + (i + 1) ≡ n = omega arith in
-      ap (run t room bs) (sym k) ∙ stays (n - (i + 1)) (i + 1) j fin e (turn i room' os rec (stopped fin j e) p same q s)
+    pub turn : run t room bs (i + 1) ≡ left_by (placed i r) fin
+    turn =
+        let here = ap (λ rs. get_or rs i []) all ∙ record_in_turn i bs [] counted in
+        one_more i os (get_or recs i []) (left_by (placed i r) fin) before here (ap (λ m. after os i (taken t m os (get_or recs i []))) (sym same) ∙ step i ∙ left_placed i r fin)
 
--- a record's answer, with the place where it is refused
-abbrev pub placed : ℕ → Result (Unit {0}) EntryFault → Result (Unit {0}) RefusedRecord
-placed i = result_map_both (λ u. u) (λ e. record { place = i; fault = e })
-
-pub left_placed : {I : Type 0} (i : ℕ) (r : Result (Unit {0}) EntryFault) (os : List (Operation I)) → left_at i r os ≡ left_by (placed i r) os
-left_placed i (Ok u) os = refl
-left_placed i (Err e) os = refl
+    pub turned_away : (e : RefusedRecord) → placed i r ≡ Err e → run t room bs (record_count bs) ≡ stopped fin e.place e.fault
+    turned_away e p =
+        let n = record_count bs in
+        let k : record_count bs - (i + 1) + (i + 1) ≡ record_count bs = let h = counted in omega arith in
+        ap (run t room bs) (sym k) ∙ stays (n - (i + 1)) (i + 1) e.place fin e.fault (turn ∙ ap (λ m. left_by m fin) p)
 
 module _ {I : Type 0} (t : Ghosts I) (room : ℕ) where
   entered_back : (os : List (Operation I)) (x op : Operation I) (r : Result ℕ SheetFault) → enter_answer t.number room os x ≡ r → if_entered x r ≡ Ok op →
@@ -76,19 +84,19 @@ module _ {I : Type 0} (t : Ghosts I) (room : ℕ) where
   entered_back os x op (Ok at) p e =
       let q : x ≡ op = cc in
       (q, ap (enter_answer t.number room os) (sym q) ∙ enter_number t.number room at os x p)
-  entered_back os x op (Err f) p e = let z : ◌≡◌ {A = ℕ} 0 1 = cc in absurd (omega arith)
+  entered_back os x op (Err f) p e = absurd cc
 
   decoded_back : (os : List (Operation I)) (op : Operation I) (r : Result (Operation I) RecordFault) → if_decoded t room os r ≡ Ok op →
       (r ≡ Ok op) × (enter_answer t.number room os op ≡ Ok (length os))
   decoded_back os op (Ok x) e =
       let p = entered_back os x op (enter_answer t.number room os x) refl e in
       (ap (λ o. Ok o) p.0, p.1)
-  decoded_back os op (Err f) e = let z : ◌≡◌ {A = ℕ} 0 1 = cc in absurd (omega arith)
+  decoded_back os op (Err f) e = absurd cc
 
   after_back : (os fin : List (Operation I)) (i : ℕ) (r : Result (Operation I) EntryFault) → after os i r ≡ going fin →
       (op : Operation I) × (r ≡ Ok op) × (fin ≡ os ++ op ∷ [])
   after_back os fin i (Ok op) e = (op, refl, cc)
-  after_back os fin i (Err f) e = let z : ◌≡◌ {A = ℕ} 0 1 = cc in absurd (omega arith)
+  after_back os fin i (Err f) e = absurd cc
 
 module _ {I : Type 0} (t : Ghosts I) (law : Lawful t) (room : ℕ) (bs : List ℕ) where
   -- what was taken are operations that enter in turn, and the bytes are theirs
@@ -120,7 +128,7 @@ module _ {I : Type 0} (t : Ghosts I) (law : Lawful t) (room : ℕ) (bs : List �
   next_back : (n : ℕ) (fin : List (Operation I)) (r : Run I) → Bytes bs → 8 + 24 * suc n ≤ length bs →
       ((os : List (Operation I)) → r ≡ going os → Took n os) → next t room bs n r ≡ going fin → Took (suc n) fin
   next_back n fin (going os) b l before e = took_more n os fin b l (before os refl) e
-  next_back n fin (stopped os j f) b l before e = let z : ◌≡◌ {A = ℕ} 0 1 = cc in absurd (omega arith)
+  next_back n fin (stopped os j f) b l before e = absurd cc
 
   pub run_back : (n : ℕ) (os : List (Operation I)) → Bytes bs → 8 + 24 * n ≤ length bs → run t room bs n ≡ going os → Took n os
   run_back zero os b l e =

@@ -1,4 +1,4 @@
-use Rattle.std.proofs.Common.{◌≡◌, ◌≤◌, ◌/◌, length, Ok, Result, sym, ap, ◌∙◌, arith, rules}
+use Rattle.std.proofs.Common.{◌≡◌, ◌+◌, ◌-◌, ◌*◌, ◌≤◌, ◌/◌, length, take, drop, Ok, Result, sym, ap, ◌∙◌, arith, rules}
 use Rattle.item.proofs.Laws.{lawful}
 use Rattle.record.specs.Bytes.{Bytes}
 use Rattle.sheet.proofs.Fills.{loan_twice}
@@ -62,7 +62,8 @@ returns g c =
     let all =
     accepting g.I.Item c.TYPE.result n (room c.clear.new.self) bs c.new.result.bytes.now h _
     c.TYPE.ensures c.in_ok-header.ensures.answer c.clear.ensures.loan.room c.new.ensures c.in_ok-header.ensures.long e.run in
-    let order = ap (λ z. numbers_of (length z / 2) z) c.new-2.ensures ∙ order_after bs h.count c.in_ok-header.ensures.long in
+    let after = c.new-2.ensures ∙ ap (λ n. take (length bs - (8 + 24 * n)) (drop (8 + 24 * n) bs)) c.from.ensures in
+    let order = ap (λ z. numbers_of (length z / 2) z) after ∙ order_after bs h.count c.in_ok-header.ensures.long in
     let r : Result Accepted ReadFault = Ok (record { kind = h.kind; k = h.k; order = c.new-2.result }) in
     let answer = ap (λ o. Ok (record { kind = kind_number h.kind; k = h.k; order = o })) order ∙ sym (ap answered all) in
     let same = sym (ap (held old) all) in

@@ -1,5 +1,6 @@
 use Rattle.std.proofs.Common.{◌≡◌, ◌+◌, ◌*◌, ◌≤◌, [], ◌++◌, length, drop, Ok, ap, ◌∙◌, subst, arith, rules}
 use mathlib.Core.Logic.{∥∥₁_map}
+use Rattle.std.proofs.lemmas.Bool.Decides.{nat_tests}
 use Rattle.item.proofs.Laws.{lawful}
 use Rattle.sheet.specs.Consistency.{Consistent}
 use Rattle.sheet.specs.Sheets.{entered}
@@ -7,7 +8,7 @@ use Rattle.frame.specs.Headers.{bytes_of_header}
 use Rattle.frame.specs.Kinds.{kind_named}
 use Rattle.frame.proofs.KindNumbers.{number_named, number_small}
 use Rattle.trace.specs.Contents.{contents, encode, AllFit}
-use Rattle.trace.proofs.Writes.{whole, answering, reads_back}
+use Rattle.trace.proofs.Writes.{whole, reads_back}
 use Rattle.trace.proofs.write.write.Goals as goal
 
 pub returns : goal.returns
@@ -25,17 +26,17 @@ returns g c =
     let head = c.header_bytes.ensures ∙ ap (λ m. bytes_of_header c.TYPE.result m (length ops) k) number in
     let n : length ops ≡ length (entered c.args.sheet.now) = ap length items in
     let bytes =
-    whole t c.TYPE.result c.args.kind k ops order c.header_bytes.result mem c.paste.new.out c.put_records.new.out c.put_order.new.out
-    c.TYPE.ensures c.if-order-ops.false head c.paste.ensures c.put_records.ensures.bytes c.put_order.ensures.bytes
+    whole t c.TYPE.result c.args.kind k ops order c.header_bytes.result mem c.paste.new.out c.put_rows.new.out c.put_rows-2.new.out
+    c.TYPE.ensures c.if-order-ops.false head c.paste.ensures c.put_rows.ensures.bytes c.put_rows-2.ensures.bytes
     ∙ ap (λ z. encode t (contents c.args.kind k z order) ++ drop (8 + 26 * length z) mem) items in
-    let fits = subst (AllFit t) items c.put_records.ensures.fit in
+    let fits = subst (AllFit t) items c.put_rows.ensures.fit in
     let few : length (entered c.args.sheet.now) ≤ 1024 = omega (arith, c.all-ops.ensures.few) in
     let kind : c.args.kind ≤ 2 = omega (arith, number) in
     let consistent = ∥∥₁_map c.all-ops.ensures.consistent (subst (Consistent []) items) in
     record {
-      answer = answering c.args.kind (length (entered c.args.sheet.now)) (length order) (length mem) kind (c.if-order-ops.false ∙ n) (omega arith);
+      answer = grind (arith, nat_tests);
       bytes = bytes;
       reads_as_what_went_in =
-          reads_back t law c.args.kind k (entered c.args.sheet.now) order c.put_order.new.out (drop (8 + 26 * length (entered c.args.sheet.now)) mem)
-          kind (omega arith) few (c.if-order-ops.false ∙ n) c.put_order.ensures.small fits consistent bytes;
+          reads_back t law c.args.kind k (entered c.args.sheet.now) order c.put_rows-2.new.out (drop (8 + 26 * length (entered c.args.sheet.now)) mem)
+          kind (omega arith) few (c.if-order-ops.false ∙ n) c.put_rows-2.ensures.fit fits consistent bytes;
     }
