@@ -75,6 +75,7 @@ impl<H: Holder> Docket<H> {
 
     // Places the operations one after another until the first refusal. Answers how many were placed, and that refusal in
     // plain numbers, all 0 for none.
+    // Kept (rule of the project): a run answers a pair of plain numbers.
     pub fn run(&mut self, order: &[u16]) -> (u16, RefusalCode)
         ensures answer { (result.0 ≡ (running H.Holder self.old order.now).new) × (result.1 ≡ code_of (running H.Holder self.old order.now).stopped) }
         ensures steps { steps_in self.new ≡ (running H.Holder self.old order.now).steps }

@@ -79,6 +79,7 @@ impl Ledger {
     {
         let order = self.order();
         for (i, step) in order.iter().enumerate() {
+            // Kept (proof): by index, since of a zip with `iter_mut` no proof knows an element afterwards.
             buffer[i] = step.rank;
         }
     }
@@ -93,6 +94,7 @@ impl Ledger {
         for (i, step) in order.iter().enumerate() {
             let start = self.entries[step.operation as usize].paired.start;
             last = last.max(start);
+            // Kept (proof): by index, since of a zip with `iter_mut` no proof knows an element afterwards.
             buffer[i] = last;
         }
     }
@@ -104,6 +106,7 @@ impl Ledger {
     {
         let table = self.table();
         for (i, entry) in table.iter().enumerate() {
+            // Kept (proof): by index, since of a zip with `iter_mut` no proof knows an element afterwards.
             buffer[i] = entry.late;
         }
     }

@@ -1,8 +1,7 @@
 use Rattle.std.proofs.Common.{◌<◌, refl, ◌∙◌, arith, rules}
 use Rattle.docket.specs.Moves.{one_less}
 use Rattle.docket.proofs.Table.{flag_kept}
-use Rattle.docket.proofs.Lifts.{lift_none, lifted_answer, lifted_ops, lifted_steps, lifted_in_step}
-use Rattle.docket.proofs.Turns.{not_both}
+use Rattle.docket.proofs.Lifts.{lifted_ops, lifted_in_step}
 use Rattle.docket.proofs.docket.Docket.lift.Goals as goal
 
 pub invariant_of-self : goal.invariant_of-self

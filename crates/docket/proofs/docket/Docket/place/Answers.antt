@@ -3,8 +3,8 @@ use Rattle.std.proofs.lemmas.Result.{err_from_is_err_and}
 use Rattle.docket.specs.declared.entry.Entry.{Entry}
 use Rattle.docket.specs.Moves.{with_late, one_more, with_flag, changed_at, changed_all}
 use Rattle.docket.proofs.Table.{flag_kept}
-use Rattle.docket.proofs.Turns.{judged_ok, not_both}
-use Rattle.docket.proofs.Ties.{judged_is, judged_rank_is, placed_ops, placed_steps, placed_in_step, same_docket}
+use Rattle.docket.proofs.Turns.{judged_ok}
+use Rattle.docket.proofs.Ties.{judged_is, judged_rank_is, placed_ops, placed_in_step}
 use Rattle.docket.proofs.docket.Docket.place.Goals as goal
 
 pub returns-in_err-rank-clause-answer : goal.returns-in_err-rank-clause-answer

@@ -1,4 +1,4 @@
-use Rattle.std.proofs.Common.{◌≡◌, ℕ, ◌+◌, ◌<◌, true, List, length, take, set, refl, sym, subst, arith, length-set}
+use Rattle.std.proofs.Common.{◌≡◌, ℕ, ◌+◌, ◌<◌, true, List, length, take, set, sym, subst, arith, length-set}
 use Rattle.std.proofs.lemmas.List.{map-set}
 use Rattle.giving.specs.Lists.{Once}
 use Rattle.docket.specs.declared.step.Step.{Step}

@@ -1,7 +1,7 @@
-use Rattle.std.proofs.Common.{◌-◌, ◌<◌, get_or, refl, arith, length-set}
+use Rattle.std.proofs.Common.{◌-◌, ◌<◌, get_or, arith, length-set}
 use Rattle.docket.specs.Kept.{numbers_in}
 use Rattle.docket.proofs.Books.{once_unmarked, flagged_unmarked}
-use Rattle.docket.proofs.Ties.{no_step, long_numbers, number_at, rank_at}
+use Rattle.docket.proofs.Ties.{no_step, long_numbers, number_at}
 use Rattle.docket.proofs.ledger.Ledger.unmark.Goals as goal
 
 pub invariant_of-self : goal.invariant_of-self

@@ -1,8 +1,7 @@
-use Rattle.std.proofs.Common.{List, map, ap, ◌∙◌, arith}
-use Rattle.calls.specs.Rules.{over}
+use Rattle.std.proofs.Common.{arith}
 use Rattle.docket.specs.declared.entry.Entry.{Entry}
 use Rattle.docket.specs.Kept.{blank}
-use Rattle.docket.proofs.Sums.{over_map_more, over_map_all}
+use Rattle.docket.proofs.Sums.{over_map_more}
 use Rattle.docket.proofs.ledger.Ledger.write_latenesses.Goals as goal
 
 pub loop-i-preserved : goal.loop-i-preserved
