@@ -26,6 +26,7 @@ pub enum DocketFault {
 }
 
 // A refusal in plain numbers, as a run answers it: number, place and detail, and all 0 for none.
+// Kept (rule of the project): a run answers plain numbers, 0 for none.
 #[derive(Clone, Copy, PartialEq, Eq, Debug)]
 pub struct RefusalCode {
     pub number: u8,

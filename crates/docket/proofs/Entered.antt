@@ -1,8 +1,6 @@
 -- The table as it is filled. Assumes nothing.
-use Rattle.std.proofs.Common.{◌≡◌, ℕ, zero, suc, ◌+◌, ◌<◌, false, List, [], ◌∷◌, ◌++◌, map, length, get_or, take, set, replicate, Some, None, Option, sym, refl, ap, ◌∙◌, arith}
-use Rattle.std.specs.List.{slice_get}
+use Rattle.std.proofs.Common.{◌≡◌, ℕ, zero, suc, ◌+◌, ◌<◌, false, List, [], ◌∷◌, ◌++◌, map, length, get_or, take, set, replicate, sym, refl, ap, ◌∙◌, arith}
 use Rattle.std.proofs.lemmas.List.{map-set, take_more, take_more_set, length-map}
-use Rattle.std.proofs.lemmas.Option.{slice_get-get_or}
 use Rattle.order.specs.declared.operation.Paired.{Paired}
 use Rattle.order.specs.Steps.{SeatRule, giving_after, rank_errors, lateness, adds_in}
 use Rattle.docket.specs.declared.entry.Entry.{Entry}
@@ -26,20 +24,12 @@ keeps_fresh F y (e ∷ es) (suc i) zero p a b = b
 keeps_fresh F y (e ∷ es) (suc i) (suc x) p a b = keeps_fresh F y es i x p a b
 
 -- the next operation is copied
-pub table_more : (es : List Entry) (qs : List Paired) (i : ℕ) (q : Paired) → i < length es → i < length qs → Some q ≡ slice_get qs i → take i (map paired_in es) ≡ take i qs
+pub table_more : (es : List Entry) (qs : List Paired) (i : ℕ) (q : Paired) → i < length es → i < length qs → q ≡ get_or qs i q → take i (map paired_in es) ≡ take i qs
     → take (i + 1) (map paired_in (set es i (fresh q))) ≡ take (i + 1) qs
-table_more es qs i q h l s e =
-    let at : q ≡ get_or qs i q = ap (λ (o : Option Paired). elim o [ Some v ↦ v | None ↦ q ]) (s ∙ slice_get-get_or qs i q l) in
+table_more es qs i q h l at e =
     ap (take (i + 1)) (map-set paired_in es i (fresh q))
     ∙ take_more_set (map paired_in es) i q (omega (arith, length-map es paired_in))
     ∙ ap (λ (v : List Paired). v ++ q ∷ []) e ∙ ap (λ (v : Paired). take i qs ++ v ∷ []) at ∙ sym (take_more qs i q l)
-
-pub there : (qs : List Paired) (i : ℕ) → i < length qs → None ≡ slice_get qs i → ⊥
-there qs i l e =
-    let q : Paired = blank.paired in
-    let f : ◌≡◌ {A = Option Paired} None (Some (get_or qs i q)) = e ∙ slice_get-get_or qs i q l in
-    let z : ◌≡◌ {A = ℕ} 0 1 = ap (λ (o : Option Paired). elim o [ Some v ↦ 1 | None ↦ 0 ]) f in
-    omega arith
 
 pub opened : (seat : SeatRule) (L : List ℕ) (n : ℕ) (l : Ledger) → L ≡ [] → n ≡ 0 → l.placed ≡ 0 → ((x : ℕ) → (entry_of l.entries x).late ≡ 0) → (steps_of l ≡ []) × InStep seat L n l
 opened seat L n l e z p lates =

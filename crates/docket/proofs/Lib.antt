@@ -1,4 +1,3 @@
-pub mod Pairings
 pub mod Entered
 pub mod Books
 pub mod Turns
@@ -7,7 +6,6 @@ pub mod Table
 pub mod Holds
 pub mod Ties
 pub mod Lifts
-pub mod Runs
 pub mod Sums
 pub mod Certified
 pub mod Slotted

@@ -1,14 +1,11 @@
 -- A step lifted. Assumes nothing.
-use Rattle.std.proofs.Common.{◌≡◌, ℕ, ◌+◌, ◌-◌, ◌<◌, ◌≤◌, false, List, [], ◌∷◌, ◌++◌, map, length, get_or, take, Ok, Err, sym, refl, ap, ◌∙◌, arith}
+use Rattle.std.proofs.Common.{◌≡◌, ℕ, ◌+◌, ◌-◌, ◌<◌, ◌≤◌, false, List, [], ◌∷◌, ◌++◌, map, length, get_or, take, sym, refl, ap, ◌∙◌, arith}
 use Rattle.std.proofs.lemmas.List.{same_from_push}
 use Rattle.giving.specs.Lists.{times}
 use Rattle.giving.proofs.Counts.{times_take}
 use Rattle.order.specs.declared.operation.Paired.{Paired}
 use Rattle.order.specs.Steps.{SeatRule, operation, rank_error, passes_over, giving_after, rank_errors, lateness, adds_in}
 use Rattle.order.proofs.Sums.{passes_times}
-use Rattle.calls.specs.declared.fault.DocketFault.TheVariants.{NothingToLift}
-use Rattle.calls.specs.Rules.{lift_answer, without_last}
-use Rattle.calls.proofs.Turns.{without_last_is, lift_is}
 use Rattle.docket.specs.declared.entry.Entry.{Entry}
 use Rattle.docket.specs.declared.step.Step.{Step}
 use Rattle.docket.specs.declared.ledger.Ledger.{Ledger}
@@ -20,12 +17,6 @@ use Rattle.docket.proofs.Pushes.{ranks_push, lateness_push, held_times}
 use Rattle.docket.proofs.Table.{keeps_one, map_keeps_one, map_keeps_all, late_down}
 use Rattle.docket.proofs.Holds.{replayed_held}
 use Rattle.docket.proofs.Ties.{long_steps, long_numbers, long_ranks, sane}
-
-none_placed : (l : Ledger) → l.placed ≡ 0 → steps_of l ≡ []
-none_placed l z = ap (λ (n : ℕ). take n (numbers_in l.steps)) z
-
-pub lift_none : (seat : SeatRule) (l : Ledger) → l.placed ≡ 0 → (Err NothingToLift ≡ lift_answer (steps_of l)) × (steps_of l ≡ without_last (steps_of l))
-lift_none seat l z = (sym (ap (lift_answer) (none_placed l z)), none_placed l z ∙ sym (ap without_last (none_placed l z)))
 
 -- the last step taken out
 module _ (seat : SeatRule) (l u : Ledger) (x : ℕ)
@@ -45,12 +36,6 @@ module _ (seat : SeatRule) (l u : Ledger) (x : ℕ)
 
   l_steps : steps_of l ≡ steps_of u ++ x ∷ []
   l_steps = last_step (numbers_in l.steps) l.placed x pos (omega (arith, long_numbers l)) x-is ∙ ap (λ (v : List ℕ). v ++ x ∷ []) (sym u_steps)
-
-  pub lifted_answer : Ok x ≡ lift_answer (steps_of l)
-  lifted_answer = sym (ap (lift_answer) l_steps ∙ lift_is (steps_of u) x)
-
-  pub lifted_steps : steps_of u ≡ without_last (steps_of l)
-  lifted_steps = sym (ap without_last l_steps ∙ without_last_is (steps_of u) x)
 
   moved_ops : (es : List Entry) (cs : List ℕ) → es ≡ changed_all (with_late one_less) u.entries cs → take u.count (map paired_in es) ≡ ops_of u
   moved_ops es cs e = ap (take u.count) (ap (map paired_in) e ∙ map_keeps_all paired_in (with_late one_less) (λ e. refl) cs u.entries)

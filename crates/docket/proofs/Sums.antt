@@ -1,7 +1,10 @@
 -- Buffers written from the front, and what is summed later. Assumes nothing.
-use Rattle.std.proofs.Common.{◌≡◌, ℕ, suc, ◌+◌, ◌<◌, ◌≤◌, max, true, false, eqb, List, [], ◌∷◌, ◌++◌, map, length, get_or, take, drop, set, sym, refl, ap, ◌∙◌, ⊎_elim, arith}
+use Rattle.std.specs.Option.{unwrap_or}
+use Rattle.std.specs.List.{fold, sum_by, position, position_from}
+use Rattle.std.proofs.lemmas.Iterator.Adapters.{position_from-zero}
+use Rattle.std.proofs.Common.{Some, Option, ◌≡◌, ℕ, suc, ◌+◌, ◌<◌, ◌≤◌, max, true, false, eqb, List, [], ◌∷◌, ◌++◌, map, length, get_or, take, drop, set, sym, refl, ap, ◌∙◌, ⊎_elim, arith}
 use Rattle.std.proofs.lemmas.List.{drop_more, set_at, append_assoc, length_push, length-map, length-take-le, map_more, take_all}
-use Rattle.std.proofs.lemmas.Bool.{cases_lt, cases_Bool, cond-true, cond-false, eq-eqb, ne_eqb, eqb-false}
+use Rattle.std.proofs.lemmas.Bool.{cases_lt, cases_eq, cases_Bool, eq-eqb, ne_eqb, eqb-false}
 use Rattle.order.specs.Times.{earliest_from}
 use Rattle.giving.specs.Lists.{place}
 use Rattle.order.specs.declared.operation.Paired.{Paired}
@@ -9,7 +12,8 @@ use Rattle.order.specs.Steps.{operation, sum}
 use Rattle.calls.specs.Rules.{over, largest_of, numbers_from}
 use Rattle.docket.specs.declared.entry.Entry.{Entry}
 use Rattle.calls.specs.declared.certificate.Certificate.{Certificate}
-use Rattle.docket.specs.Kept.{entry_of}
+use Rattle.docket.specs.declared.step.Step.{Step}
+use Rattle.docket.specs.Kept.{entry_of, ranks_in}
 use Rattle.docket.specs.InStep.{summed_up}
 
 -- ---- a buffer with one more entry written
@@ -52,29 +56,31 @@ earliest_push ops m [] x = refl
 earliest_push ops m (y ∷ p) x = ap (λ (l : List ℕ). max m (operation ops y).start ∷ l) (earliest_push ops (max m (operation ops y).start) p x)
 
 -- ---- the sums
-pub total_push : (xs : List ℕ) (v : ℕ) → sum (xs ++ v ∷ []) ≡ sum xs + v
-total_push [] v = omega arith
-total_push (x ∷ xs) v = omega (arith, total_push xs v)
+total_from : (a : ℕ) (xs : List Step) → fold (λ n s. n + s.rank) a xs ≡ a + sum (ranks_in xs)
+total_from a [] = omega arith
+total_from a (x ∷ xs) = omega (arith, total_from (a + x.rank) xs)
 
-pub largest_push : (xs : List ℕ) (v : ℕ) → largest_of (xs ++ v ∷ []) ≡ max (largest_of xs) v
-largest_push [] v = omega arith
-largest_push (x ∷ xs) v = omega (arith, largest_push xs v)
+largest_from : (a : ℕ) (xs : List Step) → fold (λ m s. max m s.rank) a xs ≡ max a (largest_of (ranks_in xs))
+largest_from a [] = omega arith
+largest_from a (x ∷ xs) = omega (arith, largest_from (max a x.rank) xs)
 
--- a number above the largest comes first at the end
-first_above : (xs : List ℕ) (v : ℕ) → largest_of xs < v → place v (xs ++ v ∷ []) ≡ length xs
-first_above [] v h = cond-true {A = ℕ} (eqb v v) 0 1 (eq-eqb v v refl)
-first_above (x ∷ xs) v h =
-    let e : eqb v x ≡ false = ne_eqb v x (λ q. omega arith) in
-    cond-false {A = ℕ} (eqb v x) 0 (suc (place v (xs ++ v ∷ []))) e ∙ ap suc (first_above xs v (omega arith))
-
--- a number that is there stays where it is
-first_kept : (xs : List ℕ) (m v : ℕ) → place m xs < length xs → place m (xs ++ v ∷ []) ≡ place m xs
-first_kept [] m v h = absurd (omega arith)
-first_kept (x ∷ xs) m v h =
+-- the first step with a rank error that some step has
+first_from : (m i : ℕ) (xs : List Step) → place m (ranks_in xs) < length xs → position_from (λ s. eqb s.rank m) i xs ≡ Some (i + place m (ranks_in xs))
+first_from m i [] h = absurd (omega arith)
+first_from m i (x ∷ xs) h =
     ⊎_elim
-    (λ (t : eqb m x ≡ true). rw t)
-    (λ (t : eqb m x ≡ false). let g : suc (place m xs) < suc (length xs) = rw t at h in rw t (ap suc (first_kept xs m v (omega arith))))
-    (cases_Bool (eqb m x))
+    (λ (e : m ≡ x.rank).
+    let t : eqb m x.rank ≡ true = eq-eqb m x.rank e in
+    let u : eqb x.rank m ≡ true = eq-eqb x.rank m (sym e) in
+    let z : i ≡ i + 0 = omega arith in
+    rw (t, u) (ap Some z))
+    (λ (e : m ≡ x.rank → ⊥).
+    let t : eqb m x.rank ≡ false = ne_eqb m x.rank e in
+    let u : eqb x.rank m ≡ false = ne_eqb x.rank m (λ q. e (sym q)) in
+    let g : suc (place m (ranks_in xs)) < suc (length xs) = rw t at h in
+    let n : i + 1 + place m (ranks_in xs) ≡ i + suc (place m (ranks_in xs)) = omega arith in
+    rw (t, u) (first_from m (i + 1) xs (omega arith) ∙ ap Some n))
+    (cases_eq m x.rank)
 
 largest_in : (x : ℕ) (xs : List ℕ) → place (largest_of (x ∷ xs)) (x ∷ xs) < length (x ∷ xs)
 largest_in x [] = let e : eqb (max x 0) x ≡ true = eq-eqb _ _ (omega arith) in rw e (omega arith)
@@ -89,22 +95,22 @@ largest_in x (y ∷ ys) =
     rw t (omega (arith, h, k)))
     (cases_Bool (eqb (largest_of (x ∷ (y ∷ ys))) x))
 
--- a larger rank error is the largest, and the first
-pub first_new : (xs : List ℕ) (v : ℕ) → largest_of xs < v → place (largest_of (xs ++ v ∷ [])) (xs ++ v ∷ []) ≡ length xs
-first_new xs v h =
-    let e : largest_of (xs ++ v ∷ []) ≡ v = omega (arith, largest_push xs v) in
-    ap (λ (m : ℕ). place m (xs ++ v ∷ [])) e ∙ first_above xs v h
-
-pub first_old : (xs : List ℕ) (v : ℕ) → v ≤ largest_of xs → place (largest_of (xs ++ v ∷ [])) (xs ++ v ∷ []) ≡ place (largest_of xs) xs
-first_old [] v h = let e : eqb (max v 0) v ≡ true = eq-eqb _ _ (omega arith) in rw e
-first_old (x ∷ xs) v h =
-    let e : largest_of (x ∷ xs ++ v ∷ []) ≡ largest_of (x ∷ xs) = omega (arith, largest_push (x ∷ xs) v) in
-    ap (λ (m : ℕ). place m (x ∷ xs ++ v ∷ [])) e ∙ first_kept (x ∷ xs) (largest_of (x ∷ xs)) v (largest_in x xs)
-
-pub summed : (rs : List ℕ) (t m f : ℕ) → t ≡ sum rs → m ≡ largest_of rs → f ≡ place (largest_of rs) rs → ◌≡◌ {A = Certificate} (record { total = t; largest = m; first = f }) (summed_up rs)
-summed rs t m f a b c =
-    ap (λ (v : ℕ). record { total = v; largest = m; first = f }) a ∙ ap (λ (v : ℕ). record { total = sum rs; largest = v; first = f }) b
-    ∙ ap (λ (v : ℕ). record { total = sum rs; largest = largest_of rs; first = v }) c
+-- what is summed up of the steps
+pub summed : (xs : List Step) (t m : ℕ) (f : Option ℕ) → t ≡ sum_by (λ s. s.rank) xs → m ≡ fold (λ n s. max n s.rank) 0 xs → f ≡ position (λ s. eqb s.rank m) xs
+    → ◌≡◌ {A = Certificate} (record { total = t; largest = m; first = unwrap_or f 0 }) (summed_up (ranks_in xs))
+summed [] t m f a b c = ap (λ (v : ℕ). record { total = v; largest = m; first = unwrap_or f 0 }) a ∙ ap (λ (v : ℕ). record { total = 0; largest = v; first = unwrap_or f 0 }) b
+    ∙ ap (λ (v : Option ℕ). record { total = 0; largest = 0; first = unwrap_or v 0 }) c
+summed (x ∷ xs) t m f a b c =
+    let rs = ranks_in (x ∷ xs) in
+    let total : t ≡ sum rs = omega (arith, a, total_from 0 (x ∷ xs)) in
+    let large : m ≡ largest_of rs = omega (arith, b, largest_from 0 (x ∷ xs)) in
+    let long = length-map (x ∷ xs) (λ (s : Step). s.rank) in
+    let found : f ≡ Some (place (largest_of rs) rs) =
+    c ∙ ap (λ (v : ℕ). position (λ s. eqb s.rank v) (x ∷ xs)) large ∙ position_from-zero (λ s. eqb s.rank (largest_of rs)) (x ∷ xs)
+    ∙ first_from (largest_of rs) 0 (x ∷ xs) (omega (arith, largest_in x.rank (ranks_in xs))) ∙ (let z : 0 + place (largest_of rs) rs ≡ place (largest_of rs) rs = omega arith in ap Some z) in
+    ap (λ (v : ℕ). record { total = v; largest = m; first = unwrap_or f 0 }) total
+    ∙ ap (λ (v : ℕ). record { total = sum rs; largest = v; first = unwrap_or f 0 }) large
+    ∙ ap (λ (v : Option ℕ). record { total = sum rs; largest = largest_of rs; first = unwrap_or v 0 }) found
 
 -- ---- the latenesses, as a list over the numbers
 pub map_below : (f : ℕ → ℕ) (F : Entry → ℕ) (i : ℕ) (es : List Entry) → ((x : ℕ) → x < length es → F (entry_of es x) ≡ f (i + x)) → map F es ≡ map f (numbers_from i (length es))

@@ -1,9 +1,6 @@
 -- A docket in step stays in step, and answers by the rules. Assumes nothing.
 use Rattle.std.proofs.Common.{◌≡◌, ℕ, ◌+◌, ◌<◌, ◌≤◌, Bool, true, false, cond, not, ◌&&◌, eqb, ltb, leb, List, [], ◌∷◌, ◌++◌, map, length, get_or, take, set, Some, None, Ok, Err, Option, Result, sym, refl, ap, ◌∙◌, ⊎_elim, arith}
 use Rattle.std.specs.List.{AllByRecursion, position}
-use Rattle.std.proofs.Props.{props}
-use Rattle.holder.specs.declared.holder.Holder.{Ghosts}
-use Rattle.docket.specs.declared.docket.Docket.{Docket}
 use Rattle.std.proofs.ByRecursion.{All-from_get_or}
 use Rattle.std.proofs.lemmas.List.{take_more_set, length-take-le, length-map, get_or-map, take-map, get_or-take}
 use Rattle.std.proofs.lemmas.Bool.{cases_lt, cases_Bool, le-leb, cond-true, cond-false}
@@ -29,12 +26,6 @@ use Rattle.docket.proofs.Table.{op_at, length_ops, keeps_one, map_keeps_one, map
 use Rattle.docket.proofs.Holds.{Sane, stepped_after}
 
 -- ---- dockets
--- a docket whose holder and ledger are those of d is d
-pub same_docket : {X : Type 0} (m : Ghosts X) (d : Docket X m) (t : InStep m.seat (m.giving d.holder) (m.adds d.holder) d.ledger) → ◌≡◌ {A = Docket X m} (record { holder = d.holder; ledger = d.ledger; tied = t }) d
-same_docket m d t =
-    let P : IsProp (InStep m.seat (m.giving d.holder) (m.adds d.holder) d.ledger) = hlevel props in
-    ap (λ (u : InStep m.seat (m.giving d.holder) (m.adds d.holder) d.ledger). record { holder = d.holder; ledger = d.ledger; tied = u }) (P t d.tied)
-
 -- ---- what a ledger says of itself
 -- what stands past the last step
 abbrev pub no_step : Step
@@ -60,9 +51,6 @@ module _ (l : Ledger) where
   -- the step at a place
   pub number_at : (i : ℕ) → i < 1024 → (get_or l.steps i no_step).operation ≡ get_or (numbers_in l.steps) i 0
   number_at i h = sym (get_or-map (λ (s : Step). s.operation) l.steps i no_step 0 (omega arith))
-
-  pub rank_at : (i : ℕ) → i < 1024 → (get_or l.steps i no_step).rank ≡ get_or (ranks_in l.steps) i 0
-  rank_at i h = sym (get_or-map (λ (s : Step). s.rank) l.steps i no_step 0 (omega arith))
 
   -- the placed steps
   module _ (order : List Step) (is : order ≡ take l.placed l.steps) where

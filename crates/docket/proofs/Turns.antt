@@ -1,33 +1,12 @@
 -- One turn of the loops over the codes and the steps, and the answers of the rules. Assumes nothing.
-use Rattle.std.proofs.Common.{◌≡◌, ℕ, ◌+◌, ◌<◌, ◌≤◌, Bool, true, false, cond, ltb, leb, List, [], ◌∷◌, ◌++◌, length, get_or, take, Some, None, Ok, Err, Option, sym, refl, ap, ◌∙◌, ⊎_elim, arith}
+use Rattle.std.proofs.Common.{◌≡◌, ℕ, ◌+◌, ◌<◌, ◌≤◌, Bool, true, false, cond, ltb, leb, List, [], ◌∷◌, ◌++◌, length, get_or, take, Ok, Err, Option, sym, refl, ap, ◌∙◌, ⊎_elim, arith}
 use Rattle.std.proofs.lemmas.List.{take_more, take_all}
-use Rattle.std.proofs.lemmas.Bool.{cases_Bool, ltb-true, ltb-false, le-leb, lt-leb, leb-false, cond-true, cond-false}
-use Rattle.giving.specs.Lists.{place, stands}
-use Rattle.order.specs.declared.operation.Deed.TheVariants.{Take}
-use Rattle.calls.specs.declared.fault.DocketFault.TheVariants.{NoSuchOperation, PlacedAlready, TooEarly}
-use Rattle.holder.specs.Answers.{rank_answer, at_answer}
+use Rattle.std.proofs.lemmas.Bool.{cases_Bool, ltb-true, ltb-false, lt-leb, leb-false, cond-false}
+use Rattle.calls.specs.declared.fault.DocketFault.TheVariants.{PlacedAlready}
+use Rattle.holder.specs.Answers.{at_answer}
 use Rattle.holder.specs.declared.fault.HolderFault.{HolderFault}
 use Rattle.docket.specs.declared.entry.Entry.{Entry}
-use Rattle.docket.specs.Moves.{rank_found, judged, judged_rank, judged_wait, changed_at, changed_all}
-
-pub not_both : true ≡ false → ⊥
-not_both f = let z : ◌≡◌ {A = ℕ} 1 0 = ap (λ (b : Bool). cond b 1 0) f in omega arith
-
-pub rank_take_ok : (L : List ℕ) (a r : ℕ) → Ok r ≡ rank_answer L a → Some r ≡ rank_found (Take a) L
-unfolding rank_found
-rank_take_ok L a r e =
-    ⊎_elim
-    (λ (t : stands a L ≡ true). let f = rw t at e in let v : r ≡ place a L = cc in rw t (ap Some v))
-    (λ (t : stands a L ≡ false). let f = rw t at e in let z : ◌≡◌ {A = ℕ} 0 1 = cc in absurd (omega arith))
-    (cases_Bool (stands a L))
-
-pub rank_take_err : (L : List ℕ) (a : ℕ) (y : HolderFault) → Err y ≡ rank_answer L a → None ≡ rank_found (Take a) L
-unfolding rank_found
-rank_take_err L a y e =
-    ⊎_elim
-    (λ (t : stands a L ≡ true). let f = rw t at e in let z : ◌≡◌ {A = ℕ} 0 1 = cc in absurd (omega arith))
-    (λ (t : stands a L ≡ false). rw t)
-    (cases_Bool (stands a L))
+use Rattle.docket.specs.Moves.{judged, judged_rank, judged_wait, changed_at, changed_all}
 
 pub at_ok : (L : List ℕ) (p x : ℕ) → Ok x ≡ at_answer L p → (p < length L) × (x ≡ get_or L p 0)
 at_ok L p x e =
@@ -45,22 +24,9 @@ at_err L p y e =
 
 -- ---- the rules
 module _ (m n x k : ℕ) (b : Bool) (w r : Option ℕ) where
-  pub judged_beyond : n ≤ x → Err (NoSuchOperation m) ≡ judged m n x k b w r
-  unfolding judged
-  judged_beyond h = sym (cond-true _ _ _ (le-leb n x h))
-
   pub judged_in : x < n → judged m n x k b w r ≡ cond b (Err (PlacedAlready m)) (judged_wait m w (judged_rank m k r))
   unfolding judged
   judged_in h = cond-false _ _ _ (lt-leb n x h)
-
-  pub judged_new : x < n → b ≡ false → judged m n x k b w r ≡ judged_wait m w (judged_rank m k r)
-  judged_new h f = judged_in h ∙ cond-false b _ _ f
-
-  pub judged_ready : x < n → b ≡ false → w ≡ None → judged m n x k b w r ≡ judged_rank m k r
-  judged_ready h f e = judged_new h f ∙ ap (λ (o : Option ℕ). judged_wait m o (judged_rank m k r)) e
-
-  pub judged_early : (v : ℕ) → x < n → b ≡ false → Some v ≡ w → Err (TooEarly m v) ≡ judged m n x k b w r
-  judged_early v h f e = sym (judged_new h f ∙ ap (λ (o : Option ℕ). judged_wait m o (judged_rank m k r)) (sym e))
 
   pub judged_ok : (v : ℕ) → Ok v ≡ judged m n x k b w r → (x < n) × (b ≡ false)
   unfolding judged

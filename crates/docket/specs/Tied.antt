@@ -21,7 +21,7 @@ bound_in d = d.ledger.k
 
 -- m has what a kind of holder means: its giving list, its count of adds and its seat rule
 module _ {X : Type 0} (m : Ghosts X) (d : Docket X m) where
-  -- the holder, the latenesses and the rank errors are what the placed steps give
+  -- the holder, the latenesses and the rank errors are what the placed steps give: the invariant of every docket
   abbrev pub Tied : Type 0
   Tied = InStep m.seat (m.giving d.holder) (m.adds d.holder) d.ledger
 

@@ -7,33 +7,30 @@ use holder::holder::Holder;
 use order::operation::Deed;
 
 // The rank error of a step, where it has one: the holder says it.
+#[tactic(auto, unfolding(crate::specs::Moves::rank_found))]
 pub(crate) fn rank_of<H: Holder>(holder: &H, deed: Deed) -> Option<u16>
     ensures { result ≡ rank_found deed (H.Holder.giving holder.now) }
 {
     match deed {
         Deed::Add => Some(0),
-        Deed::Take(a) => match holder.rank(a) {
-            Ok(r) => Some(r),
-            Err(_) => None,
-        },
+        Deed::Take(add) => holder.rank(add).ok(),
         Deed::TakeOfNone => None,
         Deed::FoundEmpty => Some(holder.count()),
     }
 }
 
 // Tells the holder a step.
-pub(crate) fn step<H: Holder>(holder: &mut H, x: u16, deed: Deed)
-    ensures { record { list = H.Holder.giving holder.new; many = H.Holder.adds holder.new } ≡ stepped H.Holder.seat x deed (record { list = H.Holder.giving holder.old; many = H.Holder.adds holder.old }) }
+pub(crate) fn step<H: Holder>(holder: &mut H, operation: u16, deed: Deed)
+    ensures { record { list = H.Holder.giving holder.new; many = H.Holder.adds holder.new } ≡ stepped H.Holder.seat operation deed (record { list = H.Holder.giving holder.old; many = H.Holder.adds holder.old }) }
 {
     match deed {
         Deed::Add => {
-            let _ = holder.add(x);
+            let _ = holder.add(operation);
         }
-        Deed::Take(a) => {
-            let _ = holder.take(a);
+        Deed::Take(add) => {
+            let _ = holder.take(add);
         }
-        Deed::TakeOfNone => {}
-        Deed::FoundEmpty => {}
+        Deed::TakeOfNone | Deed::FoundEmpty => {}
     }
 }
 

@@ -13,6 +13,7 @@ use holder::holder::Holder;
 
 impl<H: Holder> Docket<H> {
     // What placing the operation is answered: the rules in their order.
+    #[tactic(auto, unfolding(crate::specs::Moves::judged))]
     fn judge(&self, operation: u16) -> Result<u16, DocketFault>
         ensures { result ≡ judged self.now.ledger.placed self.now.ledger.count operation self.now.ledger.k (entry_of self.now.ledger.entries operation).placed (lowest (waits self.now.ledger.entries (entry_of self.now.ledger.entries operation).paired.start) 0 self.now.ledger.count) (rank_found (entry_of self.now.ledger.entries operation).paired.deed (H.Holder.giving self.now.holder)) }
     {
@@ -74,6 +75,7 @@ impl<H: Holder> Docket<H> {
 
     // Places the operations one after another until the first refusal. Answers how many were placed, and that refusal in
     // plain numbers, all 0 for none.
+    // Kept (rule of the project): a run answers a pair of plain numbers.
     pub fn run(&mut self, order: &[u16]) -> (u16, RefusalCode)
         ensures answer { (result.0 ≡ (running H.Holder self.old order.now).new) × (result.1 ≡ code_of (running H.Holder self.old order.now).stopped) }
         ensures steps { steps_in self.new ≡ (running H.Holder self.old order.now).steps }

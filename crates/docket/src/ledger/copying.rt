@@ -1,8 +1,8 @@
 // A ledger made from a sheet.
-ghost use Rattle.std.specs.Prelude.{◌≡◌, ℕ};
+ghost use Rattle.std.specs.Prelude.{◌≡◌, ℕ, Some};
 ghost use Rattle.std.specs.List.{slice_get};
 ghost use Rattle.sheet.specs.Sheets.{entered};
-ghost use Rattle.docket.specs.Pairs.{paired_all};
+ghost use Rattle.docket.specs.Pairs.{paired_of, paired_all};
 ghost use Rattle.docket.specs.InStep.{ops_of};
 ghost use Rattle.docket.specs.Kept.{entry_of};
 
@@ -11,14 +11,18 @@ use crate::ledger::Ledger;
 use crate::step::Step;
 use item::item::Item;
 use order::operation::{Deed, Paired};
-use sheet::operation::Method;
+use sheet::operation::{Method, Operation};
 use sheet::sheet::Sheet;
 
-// The operation of a number, paired.
-pub(crate) fn paired<'a, I: Item>(sheet: &Sheet<'a, I>, number: usize) -> Option<Paired>
-    ensures { result ≡ slice_get (paired_all I.Item.number (entered sheet.now)) number }
+// The operation of that number, paired.
+pub(crate) fn paired<'a, I: Item>(
+    sheet: &Sheet<'a, I>,
+    number: usize,
+    operation: &Operation<I>,
+) -> Paired
+    requires { slice_get (entered sheet.now) number ≡ Some operation.now }
+    ensures { result ≡ paired_of I.Item.number (entered sheet.now) operation.now }
 {
-    let operation = sheet.operation(number)?;
     let deed = match operation.method {
         Method::Add(_) => Deed::Add,
         Method::Take(_) => match sheet.pair(number) {
@@ -27,12 +31,12 @@ pub(crate) fn paired<'a, I: Item>(sheet: &Sheet<'a, I>, number: usize) -> Option
         },
         Method::FoundEmpty => Deed::FoundEmpty,
     };
-    Some(Paired {
+    Paired {
         deed,
         thread: operation.thread,
         start: operation.start,
         end: operation.end,
-    })
+    }
 }
 
 // A ledger of the operations of the sheet, with no step placed.
@@ -42,30 +46,20 @@ pub(crate) fn copied<'a, I: Item>(sheet: &Sheet<'a, I>, k: u16) -> Ledger
     ensures placed { result.placed ≡ 0 }
     ensures bound { result.k ≡ k }
 {
-    let none = Entry {
-        paired: Paired {
-            deed: Deed::Add,
-            thread: 0,
-            start: 0,
-            end: 0,
-        },
-        late: 0,
-        placed: false,
-    };
-    let mut entries = [none; 1024];
-    let count = sheet.count();
-    for number in 0..count {
-        if let Some(found) = paired(sheet, number) {
-            entries[number] = Entry {
-                paired: found,
-                late: 0,
-                placed: false,
-            };
-        }
+    let nothing = Entry::from(Paired {
+        deed: Deed::Add,
+        thread: 0,
+        start: 0,
+        end: 0,
+    });
+    let mut entries = [nothing; 1024];
+    let operations = sheet.all();
+    for (number, operation) in operations.iter().enumerate() {
+        entries[number] = Entry::from(paired(sheet, number, operation));
     }
     Ledger {
         entries,
-        count: count as u16,
+        count: operations.len() as u16,
         k,
         steps: [Step {
             operation: 0,

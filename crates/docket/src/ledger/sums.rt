@@ -1,5 +1,6 @@
 // What the rules and a certificate read off the ledger.
-ghost use Rattle.std.specs.Prelude.{◌≡◌, ◌<◌, ◌≤◌, not, ◌&&◌, nat_lt, length, position, IfSome};
+ghost use Rattle.std.specs.Prelude.{◌≡◌, ◌<◌, ◌≤◌, not, ◌&&◌, max, ◌==◌, nat_lt, length, position, IfSome};
+ghost use Rattle.std.specs.List.{fold, sum_by};
 ghost use Rattle.order.specs.Times.{earliest};
 ghost use Rattle.calls.specs.Rules.{lowest, over};
 ghost use Rattle.docket.specs.Moves.{waits, not_placed};
@@ -7,6 +8,7 @@ ghost use Rattle.docket.specs.InStep.{ops_of, steps_of, lates_of, errors_of, sum
 
 use crate::entry::Entry;
 use crate::ledger::Ledger;
+use crate::step::Step;
 use calls::certificate::Certificate;
 
 // The first entry that is not placed and had ended before `start`.
@@ -25,6 +27,34 @@ fn first_unplaced(table: &[Entry]) -> Option<usize>
     ensures first { result ≡ position (λ e. not e.placed) table.now }
 {
     table.iter().position(|entry| !entry.placed)
+}
+
+// The sum of the rank errors.
+fn total_of_ranks(order: &[Step]) -> u32
+    requires { length order.now ≤ 1024 }
+    ensures { result ≡ sum_by (λ s. s.rank) order.now }
+{
+    // Kept (proof): a chain's `sum` of these does not know that each rank error is below 2^16, so its bound stays open.
+    let mut total = 0;
+    for step in order {
+        total += u32::from(step.rank);
+    }
+    total
+}
+
+// The largest rank error, and 0 where there is none.
+fn largest_rank(order: &[Step]) -> u16
+    ensures { result ≡ fold (λ m s. max m s.rank) 0 order.now }
+{
+    order.iter().fold(0, |largest, step| step.rank.max(largest))
+}
+
+// The first step that has the rank error.
+fn first_with_rank(order: &[Step], rank: u16) -> Option<usize>
+    ensures within { IfSome result (λ k. k < length order.now) }
+    ensures first { result ≡ position (λ s. s.rank == rank) order.now }
+{
+    order.iter().position(|step| step.rank == rank)
 }
 
 impl Ledger {
@@ -49,6 +79,7 @@ impl Ledger {
     {
         let order = self.order();
         for (i, step) in order.iter().enumerate() {
+            // Kept (proof): by index, since of a zip with `iter_mut` no proof knows an element afterwards.
             buffer[i] = step.rank;
         }
     }
@@ -63,6 +94,7 @@ impl Ledger {
         for (i, step) in order.iter().enumerate() {
             let start = self.entries[step.operation as usize].paired.start;
             last = last.max(start);
+            // Kept (proof): by index, since of a zip with `iter_mut` no proof knows an element afterwards.
             buffer[i] = last;
         }
     }
@@ -74,6 +106,7 @@ impl Ledger {
     {
         let table = self.table();
         for (i, entry) in table.iter().enumerate() {
+            // Kept (proof): by index, since of a zip with `iter_mut` no proof knows an element afterwards.
             buffer[i] = entry.late;
         }
     }
@@ -82,21 +115,13 @@ impl Ledger {
     pub(crate) fn sum_up(&self) -> Certificate
         ensures { result ≡ summed_up (errors_of self.now) }
     {
-        let mut total: u32 = 0;
-        let mut largest: u16 = 0;
-        let mut first: u16 = 0;
         let order = self.order();
-        for (i, step) in order.iter().enumerate() {
-            total += step.rank as u32;
-            if step.rank > largest {
-                largest = step.rank;
-                first = i as u16;
-            }
-        }
+        let largest = largest_rank(order);
+        let first = first_with_rank(order, largest);
         Certificate {
-            total,
+            total: total_of_ranks(order),
             largest,
-            first,
+            first: first.unwrap_or(0) as u16,
         }
     }
 }

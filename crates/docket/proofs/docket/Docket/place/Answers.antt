@@ -3,17 +3,14 @@ use Rattle.std.proofs.lemmas.Result.{err_from_is_err_and}
 use Rattle.docket.specs.declared.entry.Entry.{Entry}
 use Rattle.docket.specs.Moves.{with_late, one_more, with_flag, changed_at, changed_all}
 use Rattle.docket.proofs.Table.{flag_kept}
-use Rattle.docket.proofs.Turns.{judged_ok, not_both}
-use Rattle.docket.proofs.Ties.{judged_is, judged_rank_is, placed_ops, placed_steps, placed_in_step, same_docket}
+use Rattle.docket.proofs.Turns.{judged_ok}
+use Rattle.docket.proofs.Ties.{judged_is, judged_rank_is, placed_ops, placed_in_step}
 use Rattle.docket.proofs.docket.Docket.place.Goals as goal
 
 pub returns-in_err-rank-clause-answer : goal.returns-in_err-rank-clause-answer
 returns-in_err-rank-clause-answer g c =
     let p = err_from_is_err_and c.from_residual.result c.from_residual.ensures.1 in
     rw (p.1, p.2) (c.in_err-rank.ensures ∙ judged_is g.H.Holder.seat c.args.self.now.ledger _ _ c.args.operation c.args.self.now.tied)
-
-pub returns-in_err-rank-clause-refused : goal.returns-in_err-rank-clause-refused
-returns-in_err-rank-clause-refused g c = λ _. same_docket g.H.Holder c.args.self.now _
 
 pub bounds-self-operation : goal.bounds-self-operation
 bounds-self-operation g c = let o = judged_ok _ _ _ _ _ _ _ c.in_ok-rank.rank c.in_ok-rank.ensures in omega (arith, o.0)
@@ -41,21 +38,17 @@ invariant_of-self-2 g c =
     let e = c.mark.ensures in
     record { tied = placed_in_step g.H.Holder.seat l m L x r o.0 o.1 es e.steps e.ranks e.placed e.count _ _ _ c.args.self.now.tied (judged_rank_is _ _ _ _ _ _ _ L r o.0 o.1 c.in_ok-rank.ensures) c.step.ensures }
 
-pub returns : goal.returns
-returns g c =
+pub returns-clause-answer : goal.returns-clause-answer
+returns-clause-answer g c = c.in_ok-rank.ensures ∙ judged_is g.H.Holder.seat c.args.self.now.ledger _ _ c.args.operation c.args.self.now.tied
+
+pub returns-clause-table : goal.returns-clause-table
+returns-clause-table g c =
     let l = c.args.self.now.ledger in
     let m = c.mark.new.self in
-    let seat = g.H.Holder.seat in
     let L = g.H.Holder.giving c.args.self.now.holder in
     let x = c.args.operation in
     let r = c.in_ok-rank.rank in
     let o = judged_ok _ _ _ _ _ _ _ r c.in_ok-rank.ensures in
     let es : m.entries ≡ changed_at (with_flag true) (changed_all (with_late one_more) l.entries (take r L)) x = c.mark.ensures.entries ∙ ap (λ (v : List Entry). changed_at (with_flag true) v x) (c.change_latenesses.ensures one_more (λ n r h. search rules)) in
     let e = c.mark.ensures in
-    record {
-      answer = c.in_ok-rank.ensures ∙ judged_is seat l _ _ x c.args.self.now.tied;
-      steps = placed_steps seat l m L x r o.0 o.1 es e.steps e.ranks e.placed e.count;
-      table = placed_ops seat l m L x r o.0 o.1 es e.steps e.ranks e.placed e.count;
-      bound = e.bound;
-      refused = λ f. absurd (not_both f);
-    }
+    placed_ops g.H.Holder.seat l m L x r o.0 o.1 es e.steps e.ranks e.placed e.count

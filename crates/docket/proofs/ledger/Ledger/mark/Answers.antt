@@ -1,4 +1,4 @@
-use Rattle.std.proofs.Common.{◌≡◌, ℕ, ◌+◌, ◌<◌, true, List, length, take, set, refl, sym, subst, arith, length-set}
+use Rattle.std.proofs.Common.{◌≡◌, ℕ, ◌+◌, ◌<◌, true, List, length, take, set, sym, subst, arith, length-set}
 use Rattle.std.proofs.lemmas.List.{map-set}
 use Rattle.giving.specs.Lists.{Once}
 use Rattle.docket.specs.declared.step.Step.{Step}
@@ -27,7 +27,8 @@ invariant_of-self c =
       flagged = subst (λ (ss : List ℕ). Flagged (changed_at (with_flag true) l.entries x) l.count ss (l.placed + 1)) s (flagged_marked (numbers_in l.steps) l.placed x h l.entries l.count (omega arith) l.flagged);
     }
 
-pub returns : goal.returns
-returns c =
-    let l = c.args.self.now in
-    record { entries = refl; steps = map-set (λ (s : Step). s.operation) l.steps l.placed _; ranks = map-set (λ (s : Step). s.rank) l.steps l.placed _; placed = refl; count = refl; bound = refl }
+pub returns-clause-steps : goal.returns-clause-steps
+returns-clause-steps c = map-set (λ (s : Step). s.operation) c.args.self.now.steps c.args.self.now.placed _
+
+pub returns-clause-ranks : goal.returns-clause-ranks
+returns-clause-ranks c = map-set (λ (s : Step). s.rank) c.args.self.now.steps c.args.self.now.placed _

@@ -1,5 +1,5 @@
-use Rattle.std.proofs.Common.{◌≡◌, ℕ, ◌+◌, ◌<◌, ◌≤◌, [], length, get_or, drop, sym, ap, ◌∙◌, arith}
-use Rattle.std.proofs.lemmas.List.{at_drop_more, at_drop_all, get_or-take, length-take-le}
+use Rattle.std.proofs.Common.{◌≡◌, ℕ, ◌+◌, ◌<◌, ◌≤◌, get_or, drop, sym, ap, ◌∙◌, arith}
+use Rattle.std.proofs.lemmas.List.{at_drop_more, at_drop_all}
 use Rattle.order.specs.Steps.{SeatRule}
 use Rattle.docket.specs.declared.ledger.Ledger.{Ledger}
 use Rattle.docket.specs.Kept.{entry_of}
@@ -10,12 +10,6 @@ use Rattle.docket.proofs.ledger.Ledger.replay.Goals as goal
 
 pub bounds-self-placed : goal.bounds-self-placed
 bounds-self-placed g c = omega (arith, order_known c.args.self.now c.order-order.result.now c.order-order.ensures.steps c.loop-placed.placed-index (omega arith))
-
-pub loop-placed-init : goal.loop-placed-init
-loop-placed-init g c =
-    let l = c.args.self.now in
-    let e : ◌≡◌ {A = Stand} (record { list = g.H.Holder.giving c.clear.new.self; many = g.H.Holder.adds c.clear.new.self }) (record { list = []; many = 0 }) = let a = c.clear.ensures.list in let b = c.clear.ensures.count in cc in
-    ap (λ (s : Stand). replayed g.H.Holder.seat l.entries s (steps_of l)) e
 
 -- one more step
 turn : (seat : SeatRule) (l : Ledger) (s t : Stand) (i : ℕ) → i < l.placed

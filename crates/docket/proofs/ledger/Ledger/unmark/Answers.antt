@@ -1,13 +1,8 @@
-use Rattle.std.proofs.Common.{◌≡◌, ◌-◌, ◌<◌, get_or, refl, arith, length-set}
+use Rattle.std.proofs.Common.{◌-◌, ◌<◌, get_or, arith, length-set}
 use Rattle.docket.specs.Kept.{numbers_in}
 use Rattle.docket.proofs.Books.{once_unmarked, flagged_unmarked}
-use Rattle.docket.proofs.Ties.{no_step, long_numbers, number_at, rank_at}
+use Rattle.docket.proofs.Ties.{no_step, long_numbers, number_at}
 use Rattle.docket.proofs.ledger.Ledger.unmark.Goals as goal
-
-pub bounds-self-last : goal.bounds-self-last
-bounds-self-last c =
-    let l = c.args.self.now in
-    omega (arith, number_at l (l.placed - 1) (omega arith), l.known (l.placed - 1) (omega arith))
 
 pub invariant_of-self : goal.invariant_of-self
 invariant_of-self c =
@@ -21,8 +16,3 @@ invariant_of-self c =
       once = once_unmarked (numbers_in l.steps) l.placed _ c.requires (omega (arith, long_numbers l)) is l.once;
       flagged = flagged_unmarked (numbers_in l.steps) l.placed _ c.requires (omega (arith, long_numbers l)) is l.entries l.count (omega arith) l.once l.flagged;
     }
-
-pub returns : goal.returns
-returns c =
-    let l = c.args.self.now in
-    record { operation = number_at l (l.placed - 1) (omega arith); rank = rank_at l (l.placed - 1) (omega arith); entries = refl; steps = refl; placed = refl; count = refl; bound = refl }

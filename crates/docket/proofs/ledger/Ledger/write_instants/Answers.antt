@@ -1,6 +1,5 @@
-use Rattle.std.proofs.Common.{◌≡◌, ℕ, ◌+◌, ◌<◌, List, max, length, get_or, take, sym, ap, ◌∙◌, arith}
-use Rattle.std.proofs.lemmas.List.{take_more, take_all, length-take-le}
-use Rattle.calls.specs.Rules.{over}
+use Rattle.std.proofs.Common.{◌≡◌, ℕ, ◌+◌, ◌<◌, max, get_or, take, sym, ap, ◌∙◌, arith}
+use Rattle.std.proofs.lemmas.List.{take_more, length-take-le}
 use Rattle.order.specs.declared.operation.Paired.{Paired}
 use Rattle.order.specs.Steps.{operation}
 use Rattle.docket.specs.Kept.{entry_of}
@@ -34,9 +33,3 @@ loop-i-preserved c =
           (length_earliest ops 0 p ∙ length-take-le i (steps_of l) (omega arith)) (omega arith) (ap (earliest ops) more ∙ earliest_push ops 0 p y) is c.loop-i.invariant.0,
       is ∙ sym (ap (top ops 0) more ∙ top_push ops 0 p y),
     )
-
-pub returns : goal.returns
-returns c =
-    let l = c.args.self.now in
-    let long = long_steps l in
-    c.loop-i.invariant.0 ∙ ap (λ (p : List ℕ). over (earliest (ops_of l) p) c.args.buffer.now) (take_all c.loop-i.i (steps_of l) (omega arith))

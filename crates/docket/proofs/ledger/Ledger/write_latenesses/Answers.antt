@@ -1,15 +1,9 @@
-use Rattle.std.proofs.Common.{List, map, ap, ◌∙◌, arith}
-use Rattle.calls.specs.Rules.{over}
+use Rattle.std.proofs.Common.{arith}
 use Rattle.docket.specs.declared.entry.Entry.{Entry}
 use Rattle.docket.specs.Kept.{blank}
-use Rattle.docket.proofs.Sums.{over_map_more, over_map_all}
+use Rattle.docket.proofs.Sums.{over_map_more}
 use Rattle.docket.proofs.ledger.Ledger.write_latenesses.Goals as goal
 
 pub loop-i-preserved : goal.loop-i-preserved
 loop-i-preserved c =
     over_map_more (λ (e : Entry). e.late) blank c.table-table.result.now c.args.buffer.now c.loop-i.buffer c.loop-i.i c.loop-i-test.true (omega arith) c.loop-i.invariant
-
-pub returns : goal.returns
-returns c =
-    over_map_all (λ (e : Entry). e.late) blank c.table-table.result.now c.args.buffer.now c.loop-i.buffer c.loop-i.i c.loop-i-test.false c.loop-i.invariant
-    ∙ ap (λ (es : List Entry). over (map (λ e. e.late) es) c.args.buffer.now) c.table-table.ensures.entries
