@@ -27,7 +27,7 @@ record Words (code bytes word n k spare : ℕ) (h : Header) : Type 0 where
 
 words_from : (code bytes word n k spare : ℕ) (h : Header) (r : Result Kind FrameFault) → word / 4096 ≡ 1 → kind_named (word / 256 % 16) ≡ r →
     header_from code bytes word n k spare r ≡ Ok h → Words code bytes word n k spare h
-words_from code bytes word n k spare h (Err f) v named e = let z : ◌≡◌ {A = ℕ} 0 1 = cc in absurd (omega arith)
+words_from code bytes word n k spare h (Err f) v named e = absurd cc
 words_from code bytes word n k spare h (Ok kind) v named e =
     let c = passed (not (eqb (word / 16 % 16) code)) ItemType _ h e in
     let d = passed (ltb 0 (word % 16)) SpareBit _ h c.1 in

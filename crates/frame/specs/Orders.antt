@@ -1,6 +1,7 @@
 -- The order of a trace, two bytes for each number.
 use Rattle.std.specs.Prelude.{ℕ, zero, suc, ◌/◌, ◌^◌, ◌<◌, List, [], ◌∷◌, length, take, drop}
 use Rattle.std.specs.Int.Digits.{number_from_digits}
+use Rattle.std.specs.List.{AllByRecursion}
 use Rattle.frame.specs.declared.order.Order.{Order}
 
 -- the first n numbers that the bytes say
@@ -13,5 +14,4 @@ order_of o = numbers_of (length o.bytes.now / 2) o.bytes.now
 
 -- each number has 16 bits
 abbrev pub Small : List ℕ → Type 0
-Small [] = Unit {0}
-Small (x ∷ xs) = (x < 2 ^ 16) × Small xs
+Small = AllByRecursion (λ n. n < 2 ^ 16)

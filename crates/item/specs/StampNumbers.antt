@@ -4,7 +4,6 @@ use Rattle.std.proofs.Common.{ap, ◌∙◌, arith}
 use Rattle.std.proofs.lemmas.Bool.Decides.{nat_tests}
 use Rattle.item.specs.declared.stamp.Stamp.{Stamp}
 use Rattle.item.specs.declared.stamp.Stamp.TheVariants.{Serial, InLane}
-use Rattle.item.specs.declared.lane.Lane.{Lane}
 use Rattle.item.specs.Lanes.{lane_number, lane_of}
 use Rattle.item.specs.Stamps.{stamp_number, StampFits, stamp_of, stamp_named}
 use Rattle.item.specs.LaneBits.{number_of_lane, number_small, lane_of_number}
@@ -27,9 +26,9 @@ stamp_there (InLane lane s) h =
 of_parts : (case lane rest : ℕ) (x : Stamp) → lane < 64 → rest < 2 ^ 32 → stamp_of case lane rest ≡ Ok x →
     (stamp_number x ≡ case * 2 ^ 38 + lane * 2 ^ 32 + rest) × StampFits x
 of_parts zero zero rest (Serial s) l r e = let q : rest ≡ s = cc in (omega arith, omega arith)
-of_parts zero zero rest (InLane m s) l r e = let z : ◌≡◌ {A = ℕ} 0 1 = cc in absurd (omega arith)
+of_parts zero zero rest (InLane m s) l r e = cc
 of_parts zero (suc lane) rest x l r e = absurd (grind (arith, nat_tests))
-of_parts (suc zero) lane rest (Serial s) l r e = let z : ◌≡◌ {A = ℕ} 0 1 = cc in absurd (omega arith)
+of_parts (suc zero) lane rest (Serial s) l r e = cc
 of_parts (suc zero) lane rest (InLane m s) l r e =
     let p : lane_of lane ≡ m = cc in
     let q : rest ≡ s = cc in

@@ -6,6 +6,7 @@ use crate::fault::ItemFault;
 // An item type. Each item has an item number below 2^40, no two items have the same one, and a number names at most one item.
 pub trait Item: Copy {
     // the type's own number, from 0 to 15
+    // Kept (rule of the project): an item type is told by a number, an associated constant of the type.
     const TYPE: u8;
 
     ghost TYPE: { ℕ };
@@ -20,6 +21,7 @@ pub trait Item: Copy {
     ghost named: { ℕ → Result Self ItemFault };
 
     // Whether two items are the same: exactly when their numbers are equal.
+    // Kept (rule of the project): the pairing compares items by the item's own `same`, and not by a derived ==.
     fn same(&self, other: &Self) -> bool
         ensures { result ≡ (number self.now == number other.now) }
     {

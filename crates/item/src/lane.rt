@@ -4,6 +4,7 @@ ghost use Rattle.item.specs.Lanes.{lane_number, lane_named};
 use crate::fault::ItemFault;
 
 // A lane, from 0 to 63: six single bits, so that every value of the type is a lane.
+// Kept (rule of the project): the type has its 64 values by its form alone, and no value outside them can be written.
 #[derive(Clone, Copy, PartialEq, Eq, Debug)]
 pub struct Lane {
     bit5: bool,

@@ -1,9 +1,9 @@
 -- A record's bytes and its operation determine one another.
-use Rattle.std.proofs.Common.{◌≡◌, ℕ, zero, suc, ◌+◌, ◌*◌, ◌/◌, ◌%◌, ◌^◌, ◌<◌, ◌≤◌, false, cond, eqb, ltb, List, [], ◌++◌, length, take, drop, Ok, Err, Result, sym, refl, ap, ◌∙◌, subst, append_assoc, append-nil, arith, length-append, length-drop, length-take, take_all}
+use Rattle.std.proofs.Common.{◌≡◌, ℕ, zero, suc, ◌+◌, ◌*◌, ◌/◌, ◌%◌, ◌^◌, ◌<◌, ◌≤◌, cond, eqb, ltb, List, [], ◌++◌, length, take, drop, Ok, Err, Result, sym, refl, ap, ◌∙◌, subst, append_assoc, append-nil, arith, length-append, length-drop, length-take, take_all}
 use Rattle.std.proofs.lemmas.List.{drop-drop, take-append-drop}
 use Rattle.std.proofs.lemmas.Bool.Decides.{nat_tests}
 use Rattle.std.specs.Int.Digits.{number_from_digits as number}
-use Rattle.refusal.proofs.Checks.{passed, pass}
+use Rattle.refusal.proofs.Checks.{passed}
 use Rattle.item.specs.declared.fault.ItemFault.{ItemFault}
 use Rattle.item.specs.declared.item.Item.{Ghosts}
 use Rattle.item.specs.Items.{Lawful}
@@ -13,7 +13,7 @@ use Rattle.sheet.specs.declared.operation.Operation.{Operation}
 use Rattle.record.specs.declared.fault.RecordFault.{RecordFault}
 use Rattle.record.specs.declared.fault.RecordFault.TheVariants.{NoSuchMethod, SpareBit, ItemOnFoundEmpty}
 use Rattle.record.specs.Bytes.{big, Bytes}
-use Rattle.record.specs.Records.{with_item, with_times, method_answer, operation_of, decode_record, word_of_method, encode_record, FitMethod, Fit}
+use Rattle.record.specs.Records.{with_item, with_times, method_answer, method_said, operation_of, decode_record, word_of_method, encode_record, FitMethod, Fit}
 use Rattle.record.proofs.Digits.{length_big, big_number, bytes_take, bytes_drop, field, with_four}
 
 pub length_record : {I : Type 0} (t : Ghosts I) (op : Operation I) → length (encode_record t op) ≡ 24
@@ -31,16 +31,11 @@ parts bs =
     let g : take 2 (drop 6 bs) ++ drop 8 bs ≡ drop 6 bs = ap (λ z. take 2 (drop 6 bs) ++ z) (sym d) ∙ b in
     simp append_assoc (ap (λ z. take 6 bs ++ (take 2 (drop 6 bs) ++ z)) f ∙ ap (λ z. take 6 bs ++ z) g ∙ a)
 
--- the operation of a record whose checks are passed
+-- the operation of a record whose method is sound
 pub decoded : {I : Type 0} (t : Ghosts I) (bs : List ℕ) (word th s e : ℕ) (m : Method I) →
     word ≡ number 256 (take 6 bs) → th ≡ number 256 (take 2 (drop 6 bs)) → s ≡ number 256 (take 8 (drop 8 bs)) → e ≡ number 256 (take 8 (drop 16 bs)) →
-    word / 2 ^ 46 ≤ 2 → word / 2 ^ 40 % 64 ≡ 0 → Ok m ≡ method_answer t (word / 2 ^ 46) (word % 2 ^ 40) →
-    Ok (record { method = m; thread = th; start = s; end = e }) ≡ decode_record t bs
-decoded t bs word th s e m p q r v h k d =
-    let a : ltb 2 (word / 2 ^ 46) ≡ false = grind (arith, nat_tests) in
-    let b : ltb 0 (word / 2 ^ 40 % 64) ≡ false = grind (arith, nat_tests) in
-    sym (pass (ltb 2 (word / 2 ^ 46)) NoSuchMethod _ _ a (pass (ltb 0 (word / 2 ^ 40 % 64)) SpareBit _ _ b (ap (with_times th s e) (sym d))))
-    ∙ with_four (operation_of t) p q r v
+    Ok m ≡ method_said t word → Ok (record { method = m; thread = th; start = s; end = e }) ≡ decode_record t bs
+decoded t bs word th s e m p q r v d = ap (with_times th s e) d ∙ with_four (operation_of t) p q r v
 
 module _ {I : Type 0} (t : Ghosts I) (law : Lawful t) where
   word_bound : (m : Method I) → FitMethod t m → word_of_method t m < 2 ^ 48
@@ -87,7 +82,7 @@ module _ {I : Type 0} (t : Ghosts I) (law : Lawful t) where
   item_back : (method : I → Method I) (n : ℕ) (r : Result I ItemFault) (m : Method I) → t.named n ≡ r → with_item method r ≡ Ok m →
       (x : I) × (method x ≡ m) × (t.number x ≡ n) × t.fit x
   item_back method n (Ok x) m p e = let b = law.back n x p in (x, (let q : method x ≡ m = cc in q), b.0, b.1)
-  item_back method n (Err f) m p e = let z : ◌≡◌ {A = ℕ} 0 1 = cc in absurd (omega arith)
+  item_back method n (Err f) m p e = cc
 
   -- the method, by its number: what it says is its word
   Says : ℕ → ℕ → Method I → Type 0
@@ -95,8 +90,8 @@ module _ {I : Type 0} (t : Ghosts I) (law : Lawful t) where
 
   empty_back : (n : ℕ) (m : Method I) → cond (eqb n 0) (Ok FoundEmpty) (Err ItemOnFoundEmpty) ≡ Ok m → Says 2 n m
   unfolding Says
-  empty_back zero (Add x) e = let z : ◌≡◌ {A = ℕ} 0 1 = cc in absurd (omega arith)
-  empty_back zero (Take x) e = let z : ◌≡◌ {A = ℕ} 0 1 = cc in absurd (omega arith)
+  empty_back zero (Add x) e = cc
+  empty_back zero (Take x) e = cc
   empty_back zero FoundEmpty e = (refl, tt)
   empty_back (suc n) m e = absurd (grind (arith, nat_tests))
 
@@ -118,18 +113,18 @@ module _ {I : Type 0} (t : Ghosts I) (law : Lawful t) where
   times_back th s e (Ok m) op p =
       let q : record { method = m; thread = th; start = s; end = e } ≡ op = cc in
       (ap (λ o. Ok o.method) q, sym (ap (λ o. o.thread) q), sym (ap (λ o. o.start) q), sym (ap (λ o. o.end) q))
-  times_back th s e (Err f) op p = let z : ◌≡◌ {A = ℕ} 0 1 = cc in absurd (omega arith)
+  times_back th s e (Err f) op p = cc
 
   word_back : (w th s e : ℕ) (op : Operation I) → operation_of t w th s e ≡ Ok op →
       (word_of_method t op.method ≡ w) × FitMethod t op.method × (op.thread ≡ th) × (op.start ≡ s) × (op.end ≡ e)
   unfolding Says
   word_back w th s e op p =
-      let h : w / 2 ^ 46 ≤ 2 = grind (arith, nat_tests) in
-      let k : w / 2 ^ 40 % 64 ≡ 0 = grind (arith, nat_tests) in
-      let q : with_times th s e (method_answer t (w / 2 ^ 46) (w % 2 ^ 40)) ≡ Ok op =
-      (passed (ltb 0 (w / 2 ^ 40 % 64)) SpareBit _ op (passed (ltb 2 (w / 2 ^ 46)) NoSuchMethod _ op p).1).1 in
-      let u = times_back th s e (method_answer t (w / 2 ^ 46) (w % 2 ^ 40)) op q in
-      let b = method_back (w / 2 ^ 46) (w % 2 ^ 40) op.method h u.0 in
+      let u = times_back th s e (method_said t w) op p in
+      let known = passed (ltb 2 (w / 2 ^ 46)) NoSuchMethod _ op.method u.0 in
+      let spared = passed (ltb 0 (w / 2 ^ 40 % 64)) SpareBit _ op.method known.1 in
+      let h : w / 2 ^ 46 ≤ 2 = let k = known.0 in grind (arith, nat_tests) in
+      let k : w / 2 ^ 40 % 64 ≡ 0 = let k = spared.0 in grind (arith, nat_tests) in
+      let b = method_back (w / 2 ^ 46) (w % 2 ^ 40) op.method h spared.1 in
       let v : word_of_method t op.method ≡ w = omega (arith, b.0) in
       (v, b.1, u.1, u.2, u.3)
 

@@ -1,10 +1,12 @@
 -- Numbers and the bytes that say them.
-use Rattle.std.proofs.Common.{◌≡◌, ℕ, zero, suc, ◌+◌, ◌-◌, ◌*◌, ◌/◌, ◌%◌, ◌^◌, ◌<◌, ◌≤◌, min, true, false, leb, List, [], ◌∷◌, ◌++◌, length, get_or, take, drop, sym, refl, ap, ◌∙◌, subst, ⊎_elim, pow-suc, add-one, arith, length-append, length-drop, length-take, length-take-le, take_all, take_at, drop_at}
+use Rattle.std.proofs.Common.{◌≡◌, ℕ, zero, suc, ◌+◌, ◌*◌, ◌/◌, ◌%◌, ◌^◌, ◌<◌, ◌≤◌, List, [], ◌∷◌, ◌++◌, length, get_or, take, drop, sym, refl, ap, ◌∙◌, pow-suc, arith, length-append, length-take-le, take_all, take_at, drop_at}
 use native.Mathlib.Nat.{pow-le-pow_right}
-use Rattle.std.proofs.lemmas.List.{take_more, drop_all}
-use Rattle.std.proofs.lemmas.Bool.{cases_Bool, leb-true, leb-false}
-use Rattle.std.specs.Int.Digits.{number_from_digits}
-use Rattle.std.proofs.lemmas.Int.Digits.{number_push, number_more}
+use Rattle.std.proofs.lemmas.List.{take_more}
+use Rattle.std.specs.Int.Digits.{number_from_digits, number_from_digits_after}
+use Rattle.std.specs.List.{fold}
+use Rattle.std.specs.Int.{byte_at, bytes_high_first}
+use Rattle.std.proofs.Math.Nat.{mul_comm, div-div-eq-div-mul}
+use Rattle.std.proofs.lemmas.Int.Digits.{number_push}
 use Rattle.record.specs.Bytes.{big, Bytes}
 
 pub length_big : (w n : ℕ) → length (big w n) ≡ w
@@ -53,102 +55,39 @@ big_number (suc w) xs b l =
       omega (arith, i.1),
     )
 
--- the running number of a loop over the bytes, modulo 2^64: one byte more, its bound, and all of them
-pub running_more : (n i : ℕ) (xs : List ℕ) → i < length xs → n ≡ number_from_digits 256 (take i xs) % 2 ^ 64 →
-    (n * 256 % 2 ^ 64 + get_or xs i 0) % 2 ^ 64 ≡ number_from_digits 256 (take (i + 1) xs) % 2 ^ 64
-running_more n i xs h e = let m = number_more 256 xs i h in rw m (omega arith)
+-- the running number of the bytes, modulo 2^64
+pub running : (r n : ℕ) (xs : List ℕ) → r ≡ n % 2 ^ 64 → fold (λ m b. (m * 256 % 2 ^ 64 + b) % 2 ^ 64) r xs ≡ number_from_digits_after 256 n xs % 2 ^ 64
+running r n [] e = e
+running r n (x ∷ xs) e = running ((r * 256 % 2 ^ 64 + x) % 2 ^ 64) (n * 256 + x) xs (omega arith)
 
-pub bound_more : (i : ℕ) (xs : List ℕ) → i < length xs → get_or xs i 0 < 256 → number_from_digits 256 (take i xs) < 256 ^ i → number_from_digits 256 (take (i + 1) xs) < 256 ^ (i + 1)
-bound_more i xs h b l = let m = number_more 256 xs i h in rw (m, add-one, pow-suc) (omega arith)
-
-pub running_all : (i : ℕ) (xs : List ℕ) → length xs ≤ i → number_from_digits 256 (take i xs) % 2 ^ 64 ≡ number_from_digits 256 xs % 2 ^ 64
-running_all i xs h = ap (λ z. number_from_digits 256 z % 2 ^ 64) (take_all i xs h)
-
--- up to eight bytes, no more than their number counts
-pub narrow : (n r w : ℕ) → r ≡ n % 2 ^ 64 → n < 256 ^ w → w ≤ 8 → (r ≡ n) × (r < 256 ^ w)
-narrow n r w e l h =
+-- of up to eight bytes, no more than their number counts
+pub narrow : (r w : ℕ) (xs : List ℕ) → Bytes xs → length xs ≤ w → r ≡ number_from_digits 256 xs % 2 ^ 64 → w ≤ 8 →
+    (r ≡ number_from_digits 256 xs) × (r < 256 ^ w)
+narrow r w xs b l e h =
+    let p = big_number (length xs) xs b refl in
     let z : 0 < 256 = omega arith in
+    let k : 256 ^ length xs ≤ 256 ^ w = pow-le-pow_right z l in
     let m : 256 ^ w ≤ 256 ^ 8 = pow-le-pow_right z h in
-    (omega arith, omega arith)
+    (omega (arith, p.1), omega (arith, p.1))
 
-pub bound_all : (i : ℕ) (xs : List ℕ) → length xs ≤ i → i ≤ length xs → number_from_digits 256 (take i xs) < 256 ^ i → number_from_digits 256 xs < 256 ^ length xs
-bound_all i xs h k l =
-    let e : i ≡ length xs = omega arith in
-    subst (λ w. number_from_digits 256 xs < 256 ^ w) e (subst (λ ys. number_from_digits 256 ys < 256 ^ i) (take_all i xs h) l)
-
--- the part of the bytes from one place on, as far as there are bytes
-take_nil : (w : ℕ) → take {A = ℕ} w [] ≡ []
-take_nil zero = refl
-take_nil (suc w) = refl
-
-pub part_within : (at w from to : ℕ) (xs : List ℕ) → from ≡ min at (length xs) → to ≡ from + min w (length xs - from) →
-    (take (to - from) (drop from xs) ≡ take w (drop at xs)) × (to - from ≤ w)
-part_within at w from to xs e f =
-    let l = length-drop at xs in (
-      ⊎_elim
-          (λ (h : leb at (length xs) ≡ true).
-          let a = leb-true at (length xs) h in
-          let p : from ≡ at = omega arith in
-          ap (λ k. take (to - from) (drop k xs)) p ∙ ⊎_elim
-          (λ (k : leb w (length xs - at) ≡ true).
-          let b = leb-true w (length xs - at) k in
-          let q : to - from ≡ w = omega arith in
-          ap (λ n. take n (drop at xs)) q)
-          (λ (k : leb w (length xs - at) ≡ false).
-          let b = leb-false w (length xs - at) k in
-          take_all (to - from) (drop at xs) (omega arith) ∙ sym (take_all w (drop at xs) (omega arith)))
-          (cases_Bool (leb w (length xs - at))))
-          (λ (h : leb at (length xs) ≡ false).
-          let a = leb-false at (length xs) h in
-          let p : to - from ≡ 0 = omega arith in
-          ap (λ k. take k (drop from xs)) p ∙ sym (take_nil w) ∙ ap (take w) (sym (drop_all at xs (omega arith))))
-          (cases_Bool (leb at (length xs))),
-      omega arith,
-    )
-
-pub part_number : (at w r : ℕ) (xs : List ℕ) → Bytes xs → r ≡ number_from_digits 256 (take w (drop at xs)) % 2 ^ 64 → w ≤ 8 →
-    (r ≡ number_from_digits 256 (take w (drop at xs))) × (r < 256 ^ w)
-part_number at w r xs b e h =
-    let part = take w (drop at xs) in
-    let p = big_number (length part) part (bytes_take w (drop at xs) (bytes_drop at xs b)) refl in
-    let k : length part ≤ w = simp length-take (omega arith) in
-    let z : 0 < 256 = omega arith in
-    let m : 256 ^ length part ≤ 256 ^ w = pow-le-pow_right z k in
-    narrow (number_from_digits 256 part) r w e (omega (arith, p.1)) h
-
--- numbers of two, six and eight bytes, byte by byte
+-- a number of two bytes, byte by byte
 pub big_two : (n : ℕ) → big 2 n ≡ n / 256 % 256 ∷ n % 256 ∷ []
 unfolding big
 big_two n = refl
 
-module _ (n : ℕ) where
-  by_2 : n / 256 / 256 ≡ n / 65536
-  by_2 = omega arith
+byte_above : (i n : ℕ) → byte_at (suc i) n ≡ byte_at i (n / 256)
+byte_above zero n = refl
+byte_above (suc i) n = rw (pow-suc 256 (suc i), mul_comm (256 ^ suc i) 256) (ap (λ z. z % 256) (sym (div-div-eq-div-mul n 256 (256 ^ suc i))))
 
-  by_3 : n / 65536 / 256 ≡ n / 16777216
-  by_3 = omega arith
+high_push : (w n : ℕ) → bytes_high_first (suc w) n ≡ bytes_high_first w (n / 256) ++ n % 256 ∷ []
+high_push zero n = refl
+high_push (suc w) n = rw (byte_above w n, high_push w n) refl
 
-  by_4 : n / 16777216 / 256 ≡ n / 4294967296
-  by_4 = omega arith
-
-  by_5 : n / 4294967296 / 256 ≡ n / 1099511627776
-  by_5 = omega arith
-
-  by_6 : n / 1099511627776 / 256 ≡ n / 281474976710656
-  by_6 = omega arith
-
-  by_7 : n / 281474976710656 / 256 ≡ n / 72057594037927936
-  by_7 = omega arith
-
-pub big_six : (n : ℕ) →
-    big 6 n ≡ n / 1099511627776 % 256 ∷ n / 4294967296 % 256 ∷ n / 16777216 % 256 ∷ n / 65536 % 256 ∷ n / 256 % 256 ∷ n % 256 ∷ []
+-- the bytes as the library writes them
+pub big_is : (w n : ℕ) → big w n ≡ bytes_high_first w n
 unfolding big
-big_six n = simp (by_2 n, by_3 n, by_4 n, by_5 n)
-
-pub big_eight : (n : ℕ) →
-    big 8 n ≡ n / 72057594037927936 % 256 ∷ n / 281474976710656 % 256 ∷ n / 1099511627776 % 256 ∷ n / 4294967296 % 256 ∷ n / 16777216 % 256 ∷ n / 65536 % 256 ∷ n / 256 % 256 ∷ n % 256 ∷ []
-unfolding big
-big_eight n = simp (by_2 n, by_3 n, by_4 n, by_5 n, by_6 n, by_7 n)
+big_is zero n = refl
+big_is (suc w) n = ap (λ z. z ++ n % 256 ∷ []) (big_is w (n / 256)) ∙ sym (high_push w n)
 
 pub with_four : {X : Type 0} {Y : Type 0} (f : X → X → X → X → Y) {a a' b b' c c' d d' : X} → a ≡ a' → b ≡ b' → c ≡ c' → d ≡ d' →
     f a b c d ≡ f a' b' c' d'

@@ -27,11 +27,14 @@ module _ {I : Type 0} (t : Ghosts I) where
       cond (m == 0) (with_item (λ x. Add x) (t.named field))
       (cond (m == 1) (with_item (λ x. Take x) (t.named field)) (cond (field == 0) (Ok FoundEmpty) (Err ItemOnFoundEmpty)))
 
+  -- the method of the first 48 bits
+  abbrev pub method_said : ℕ → Result (Method I) RecordFault
+  method_said word =
+      cond (nat_lt 2 (word / 2 ^ 46)) (Err NoSuchMethod) (cond (nat_lt 0 (word / 2 ^ 40 % 64)) (Err SpareBit) (method_answer (word / 2 ^ 46) (word % 2 ^ 40)))
+
   -- the operation of the first 48 bits, the thread and the times
   abbrev pub operation_of : ℕ → ℕ → ℕ → ℕ → Result (Operation I) RecordFault
-  operation_of word thread start end =
-      cond (nat_lt 2 (word / 2 ^ 46)) (Err NoSuchMethod)
-      (cond (nat_lt 0 (word / 2 ^ 40 % 64)) (Err SpareBit) (with_times thread start end (method_answer (word / 2 ^ 46) (word % 2 ^ 40))))
+  operation_of word thread start end = with_times thread start end (method_said word)
 
   -- what the 24 bytes of a record say
   abbrev pub decode_record : List ℕ → Result (Operation I) RecordFault

@@ -6,11 +6,9 @@ pub fn big_endian(bytes: &[u8]) -> u64
     ensures value { result ≡ number_from_digits 256 bytes.now % 2 ^ 64 }
     ensures narrow { length bytes.now ≤ 8 → (result ≡ number_from_digits 256 bytes.now) × (result < 256 ^ length bytes.now) }
 {
-    let mut n = 0u64;
-    for b in bytes {
-        n = n.wrapping_mul(256).wrapping_add(*b as u64);
-    }
-    n
+    bytes.iter().fold(0, |n, byte| {
+        n.wrapping_mul(256).wrapping_add(u64::from(*byte))
+    })
 }
 
 // The number that `width` bytes say from byte `at` on, as far as there are bytes.
@@ -18,7 +16,6 @@ pub fn number_at(bytes: &[u8], at: usize, width: usize) -> u64
     ensures value { result ≡ number_from_digits 256 (take width (drop at bytes.now)) % 2 ^ 64 }
     ensures narrow { width ≤ 8 → (result ≡ number_from_digits 256 (take width (drop at bytes.now))) × (result < 256 ^ width) }
 {
-    let from = at.min(bytes.len());
-    let to = from + width.min(bytes.len() - from);
-    big_endian(&bytes[from..to])
+    let rest = &bytes[at.min(bytes.len())..];
+    big_endian(&rest[..width.min(rest.len())])
 }

@@ -24,14 +24,12 @@ fn word_of<I: Item>(method: &Method<I>) -> u64
 fn lay_out(word: u64, thread: u16, start: u64, end: u64) -> RecordBytes
     ensures { result ≡ big 6 word ++ big 2 thread ++ big 8 start ++ big 8 end }
 {
-    let w = word.to_be_bytes();
-    let t = thread.to_be_bytes();
-    let s = start.to_be_bytes();
-    let e = end.to_be_bytes();
-    [
-        w[2], w[3], w[4], w[5], w[6], w[7], t[0], t[1], s[0], s[1], s[2], s[3], s[4], s[5], s[6],
-        s[7], e[0], e[1], e[2], e[3], e[4], e[5], e[6], e[7],
-    ]
+    let mut bytes = [0; 24];
+    bytes[..6].copy_from_slice(&word.to_be_bytes()[2..]);
+    bytes[6..8].copy_from_slice(&thread.to_be_bytes());
+    bytes[8..16].copy_from_slice(&start.to_be_bytes());
+    bytes[16..].copy_from_slice(&end.to_be_bytes());
+    bytes
 }
 
 // The 24 bytes that say the operation.

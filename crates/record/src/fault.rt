@@ -6,7 +6,7 @@ use item::fault::ItemFault;
 use refusal::{Layer, Refusal};
 
 // Why a record's bytes are no operation.
-#[derive(Clone, Copy)]
+#[derive(Clone, Copy, PartialEq, Eq, Debug)]
 pub enum RecordFault {
     // method 3
     NoSuchMethod,
@@ -20,29 +20,21 @@ pub enum RecordFault {
 
 impl RecordFault {
     // The refusal of the record at that place.
+    // Kept (no plainer): a From would see the fault alone, and the refusal needs the place too.
     pub fn refusal(&self, place: u16) -> Refusal
         ensures { result ≡ record_refusal place self.now }
     {
-        match self {
-            RecordFault::NoSuchMethod => Refusal {
-                layer: Layer::Record,
-                number: 10,
-                place,
-                detail: 0,
-            },
-            RecordFault::SpareBit => Refusal {
-                layer: Layer::Record,
-                number: 11,
-                place,
-                detail: 0,
-            },
-            RecordFault::Item(fault) => fault.refusal(place),
-            RecordFault::ItemOnFoundEmpty => Refusal {
-                layer: Layer::Record,
-                number: 13,
-                place,
-                detail: 0,
-            },
+        let number = match self {
+            RecordFault::NoSuchMethod => 10,
+            RecordFault::SpareBit => 11,
+            RecordFault::Item(fault) => return fault.refusal(place),
+            RecordFault::ItemOnFoundEmpty => 13,
+        };
+        Refusal {
+            layer: Layer::Record,
+            number,
+            place,
+            detail: 0,
         }
     }
 }

@@ -19,6 +19,7 @@ pub enum Layer {
 
 // A refusal in plain numbers. The place is the number of a record or a step, and 0 where the layer has none;
 // the detail is what the list of refusals names for that number, and else 0.
+// Kept (no plainer): the number is what is printed and listed; in code each layer's faults are an enum of their own.
 #[derive(Clone, Copy, PartialEq, Eq, Debug)]
 pub struct Refusal {
     pub layer: Layer,
@@ -55,10 +56,10 @@ impl fmt::Display for Refusal {
     ghost output = { λ r. Some (refusal_line r) };
 
     fn fmt<W: fmt::Write>(&self, f: &mut fmt::Formatter<W>) -> fmt::Result {
-        let layer = self.layer;
-        let number = self.number;
-        let place = self.place;
-        let detail = self.detail;
-        write!(f, "refused {layer} {number} place {place} detail {detail}")
+        write!(
+            f,
+            "refused {} {} place {} detail {}",
+            self.layer, self.number, self.place, self.detail
+        )
     }
 }

@@ -14,12 +14,12 @@ use Rattle.sheet.specs.Consistency.{Same, New, Consistent}
 use Rattle.sheet.specs.Entering.{enter_answer, unless_repeated}
 
 not_there : (b : Bool) (k : ℕ) (r : Option ℕ) → cond b (Some k) r ≡ None → (b ≡ false) × (r ≡ None)
-not_there true k r e = let z : ◌≡◌ {A = ℕ} 0 1 = cc in absurd (omega arith)
+not_there true k r e = cc
 not_there false k r e = (refl, e)
 
 no_other : {I : Type 0} (m : Method I) (n at : ℕ) (r : Option ℕ) → unless_repeated m n r ≡ Ok at → r ≡ None
 no_other m n at None e = refl
-no_other m n at (Some k) e = let z : ◌≡◌ {A = ℕ} 0 1 = cc in absurd (omega arith)
+no_other m n at (Some k) e = cc
 
 module _ {I : Type 0} (number : I → ℕ) where
   unlike : (x y : Method I) → alike number x y ≡ false → Same x y → ⊥
@@ -81,13 +81,11 @@ module _ {I : Type 0} where
       sym (take-append-drop (k + 1) (set xs k x)) ∙ ap (λ j. take (k + 1) (set xs k x) ++ drop j (set xs k x)) (sym l)
       ∙ ap (λ z. take (k + 1) (set xs k x) ++ z) (drop-set-lt (length (take (k + 1) (set xs k x))) xs k x m)
 
-  -- a sheet once an operation is entered: its invariant, and what it holds
+  -- a sheet once an operation is entered: its invariant, and what its records are
   pub record Grown (mem : List (Operation I)) (count : ℕ) (op : Operation I) : Type 0 where
     pub within : count + 1 ≤ length (set mem count op)
     pub bounded : count + 1 ≤ 1024
-    pub fits : count < length mem
     pub consistent : ∥ Consistent [] (take (count + 1) (set mem count op)) ∥₁
-    pub entered : take (count + 1) (set mem count op) ≡ take count mem ++ op ∷ []
     pub memory : set mem count op ≡ filled (take (count + 1) (set mem count op)) mem
     pub room : min (length (set mem count op)) 1024 ≡ min (length mem) 1024
 
@@ -101,9 +99,7 @@ module _ {I : Type 0} where
       record {
         within = simp length-set (omega arith);
         bounded = omega arith;
-        fits = f;
         consistent = ∥∥₁_map s (λ t. subst (Consistent []) (sym (taken mem count op f)) (consistent_push [] (take count mem) op t r.timed r.fresh));
-        entered = taken mem count op f;
         memory = written mem count op f;
         room = ap (λ n. min n 1024) (length-set mem count op);
       }

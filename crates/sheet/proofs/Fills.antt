@@ -3,7 +3,7 @@ use Rattle.std.proofs.Common.{◌≡◌, ◌+◌, ◌-◌, ◌≤◌, Bool, true
 use Rattle.std.proofs.lemmas.List.{take-append-drop, drop-drop, length_push}
 use Rattle.sheet.specs.declared.operation.Operation.{Operation}
 use Rattle.sheet.specs.declared.sheet.Sheet.{Sheet}
-use Rattle.sheet.specs.Sheets.{memory, entered, filled}
+use Rattle.sheet.specs.Sheets.{memory, entered, filled, SameLoan}
 
 module _ {I : Type 0} where
   -- memory that nothing is entered into
@@ -21,6 +21,19 @@ module _ {I : Type 0} where
       ap (λ n. drop n (os ++ drop (length os) mem)) (sym e) ∙ sym (drop-drop d (length os) (os ++ drop (length os) mem))
       ∙ ap (drop d) (drop_at os (drop (length os) mem) (length os) refl) ∙ drop-drop d (length os) mem ∙ ap (λ n. drop n mem) e in
       ap (λ z. fin ++ z) p
+
+  -- a sheet that nothing is done to
+  pub loan_same : (s : Sheet I) → SameLoan s s
+  loan_same s = record { memory = filled_same s; room = refl; lender = refl }
+
+  -- a sheet that is worked on twice, the second time only entering
+  pub loan_twice : (s t u : Sheet I) → SameLoan s t → SameLoan t u → length (entered t) ≤ length (entered u) → SameLoan s u
+  loan_twice s t u a b h =
+      record {
+        memory = b.memory ∙ ap (filled (entered u)) a.memory ∙ filled_twice (entered t) (entered u) (memory s) h;
+        room = b.room ∙ a.room;
+        lender = b.lender ∙ a.lender;
+      }
 
   -- one operation more, or none
   pub grows : (b : Bool) (os : List (Operation I)) (op : Operation I) → length os ≤ length (cond b (os ++ op ∷ []) os)

@@ -1,37 +1,17 @@
 -- The search for the first operation that does the same.
-use Rattle.std.proofs.Common.{◌≡◌, ℕ, zero, suc, ◌+◌, ◌<◌, ◌≤◌, Bool, true, false, cond, List, [], ◌∷◌, length, get_or, drop, Some, None, Option, sym, refl, ap, subst, add-one, arith, drop-cons}
-use lib.Seq.{drop-length}
+use Rattle.std.proofs.Common.{◌≡◌, ℕ, zero, suc, ◌+◌, ◌<◌, Bool, true, false, cond, List, [], ◌∷◌, Some, None, Option, sym, refl, subst, arith}
 use Rattle.std.proofs.lemmas.Bool.Decides.{nat_tests}
 use Rattle.sheet.specs.declared.operation.Method.{Method}
 use Rattle.sheet.specs.declared.operation.Method.TheVariants.{Add, Take, FoundEmpty}
 use Rattle.sheet.specs.declared.operation.Operation.{Operation}
 use Rattle.sheet.specs.Alike.{alike, first_alike_in}
-use Rattle.sheet.specs.Pairing.{add_matching, pair_of_method, pair_of, AddsItem, IsAdd, LowestAdd, PairsMethod, Pairs}
-
-module _ {I : Type 0} (number : I → ℕ) (m : Method I) (k : ℕ) (xs : List (Operation I)) where
-  step : (x : Operation I) → k < length xs → x ≡ get_or xs k x →
-      first_alike_in number m k (drop k xs) ≡ cond (alike number x.method m) (Some k) (first_alike_in number m (k + 1) (drop (k + 1) xs))
-  step x h e = rw (drop-cons xs k x h, add-one, ← e)
-
-  pub found : (x : Operation I) → k < length xs → x ≡ get_or xs k x →
-      first_alike_in number m 0 xs ≡ first_alike_in number m k (drop k xs) → true ≡ alike number (get_or xs k x).method m →
-      Some k ≡ first_alike_in number m 0 xs
-  found x h e inv t = let s = step x h e in let u = ap (λ o. alike number o.method m) e in cc
-
-  pub passed : (x : Operation I) → k < length xs → x ≡ get_or xs k x →
-      first_alike_in number m 0 xs ≡ first_alike_in number m k (drop k xs) → false ≡ alike number (get_or xs k x).method m →
-      first_alike_in number m 0 xs ≡ first_alike_in number m (k + 1) (drop (k + 1) xs)
-  passed x h e inv t = let s = step x h e in let u = ap (λ o. alike number o.method m) e in cc
-
-  pub nowhere : length xs ≤ k → k ≤ length xs →
-      first_alike_in number m 0 xs ≡ first_alike_in number m k (drop k xs) → None ≡ first_alike_in number m 0 xs
-  nowhere h j inv = let e : k ≡ length xs = omega arith in cc (drop-length xs)
+use Rattle.sheet.specs.Pairing.{AddsItem, IsAdd, LowestAdd}
 
 module _ {I : Type 0} (number : I → ℕ) (x : I) where
   adds_alike : (m : Method I) → alike number m (Add x) ≡ true → AddsItem number (number x) m
   adds_alike (Add y) e = grind (arith, nat_tests)
-  adds_alike (Take y) e = let z : ◌≡◌ {A = ℕ} 0 1 = cc in absurd (omega arith)
-  adds_alike FoundEmpty e = let z : ◌≡◌ {A = ℕ} 0 1 = cc in absurd (omega arith)
+  adds_alike (Take y) e = cc
+  adds_alike FoundEmpty e = cc
 
   adds_unlike : (m : Method I) → alike number m (Add x) ≡ false → AddsItem number (number x) m → ⊥
   adds_unlike (Add y) e h = grind (arith, nat_tests)
@@ -75,13 +55,3 @@ module _ {I : Type 0} (number : I → ℕ) (x : I) where
 
   pub lowest_add : (os : List (Operation I)) (r : Option ℕ) → r ≡ first_alike_in number (Add x) 0 os → LowestAdd number (number x) os r
   lowest_add os r e = from_zero os r (subst (LowestFrom 0 os) (sym e) (lowest_from 0 os))
-
-module _ {I : Type 0} (number : I → ℕ) (os : List (Operation I)) where
-  pairs_method : (m : Method I) → PairsMethod number os m (pair_of_method number os m)
-  pairs_method (Add x) = refl
-  pairs_method (Take x) = lowest_add number x os (add_matching number x os) refl
-  pairs_method FoundEmpty = refl
-
-  pub pairs : (o : Option (Operation I)) (r : Option ℕ) → r ≡ pair_of number os o → Pairs number os o r
-  pairs None r e = e
-  pairs (Some o) r e = subst (PairsMethod number os o.method) (sym e) (pairs_method o.method)

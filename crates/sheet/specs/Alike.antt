@@ -1,5 +1,6 @@
 -- Operations that do the same.
-use Rattle.std.specs.Prelude.{ℕ, ◌+◌, Bool, false, cond, List, [], ◌∷◌, Some, None, Option, ◌==◌}
+use Rattle.std.specs.Prelude.{ℕ, Bool, false, List, Option, ◌==◌}
+use Rattle.std.specs.List.{position_from}
 use Rattle.sheet.specs.declared.operation.Method.{Method}
 use Rattle.sheet.specs.declared.operation.Method.TheVariants.{Add, Take, FoundEmpty}
 use Rattle.sheet.specs.declared.operation.Operation.{Operation}
@@ -19,5 +20,4 @@ module _ {I : Type 0} where
 
   -- the number of the first of the operations that does what the method does; the first of them has the number k
   abbrev pub first_alike_in : (I → ℕ) → Method I → ℕ → List (Operation I) → Option ℕ
-  first_alike_in number m k [] = None
-  first_alike_in number m k (o ∷ os) = cond (alike number o.method m) (Some k) (first_alike_in number m (k + 1) os)
+  first_alike_in number m k os = position_from (λ o. alike number o.method m) k os

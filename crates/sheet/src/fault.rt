@@ -4,7 +4,7 @@ ghost use Rattle.sheet.specs.Faults.{sheet_refusal};
 use refusal::{Layer, Refusal};
 
 // Why an operation is not entered. The place is the number that it would get.
-#[derive(Clone, Copy)]
+#[derive(Clone, Copy, PartialEq, Eq, Debug)]
 pub enum SheetFault {
     Full { place: u16 },
     EndBeforeStart { place: u16 },
@@ -12,12 +12,12 @@ pub enum SheetFault {
     TakenAlready { place: u16, earlier: u16 },
 }
 
-impl SheetFault {
-    // The refusal, whose detail is the earlier operation where there is one.
-    pub fn refusal(&self) -> Refusal
-        ensures { result ≡ sheet_refusal self.now }
-    {
-        let (number, place, detail) = match *self {
+// The refusal, whose detail is the earlier operation where there is one.
+impl From<SheetFault> for Refusal {
+    ghost from_gives = { λ f r. r ≡ sheet_refusal f };
+
+    fn from(fault: SheetFault) -> Refusal {
+        let (number, place, detail) = match fault {
             SheetFault::Full { place } => (20, place, 0),
             SheetFault::EndBeforeStart { place } => (21, place, 0),
             SheetFault::AddedAlready { place, earlier } => (22, place, earlier),

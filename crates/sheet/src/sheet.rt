@@ -6,6 +6,7 @@ use crate::operation::Operation;
 mod calls;
 
 // The operations entered so far, at the front of the records that the caller lends.
+// Kept (rule of the project): a sheet is a lent slice of operations and a count; it allocates nothing.
 #[derive(Drop)]
 pub struct Sheet<'a, I> {
     records: &'a mut [Operation<I>],

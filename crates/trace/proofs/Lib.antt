@@ -1,5 +1,4 @@
 mod Entries
-mod Refills
 mod Runs
 pub mod Readings
 mod Writes

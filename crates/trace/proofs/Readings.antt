@@ -79,11 +79,11 @@ module _ {I : Type 0} (t : Ghosts I) (law : Lawful t) (room : ℕ) (bs : List �
   ended_back h c (going os) b e r p =
       let q : contents (kind_number h.kind) h.k os (numbers_of h.count (drop (8 + 24 * h.count) bs)) ≡ c = cc in
       subst Right q (going_back h os b e r)
-  ended_back h c (stopped os i f) b e r p = let z : ◌≡◌ {A = ℕ} 0 1 = cc in absurd (omega arith)
+  ended_back h c (stopped os i f) b e r p = absurd cc
 
   framed_back : (c : Contents I) (r : Result Header FrameFault) → Bytes bs → frame_of t.TYPE bs ≡ r → framed t room bs r ≡ accepted c → Right c
   framed_back c (Ok h) b e p = ended_back h c (run t room bs h.count) b e refl p
-  framed_back c (Err f) b e p = let z : ◌≡◌ {A = ℕ} 0 1 = cc in absurd (omega arith)
+  framed_back c (Err f) b e p = absurd cc
 
   pub reading_back : (c : Contents I) → Bytes bs → reading t room bs ≡ accepted c → Right c
   reading_back c b p = framed_back c (frame_of t.TYPE bs) b refl p
@@ -131,8 +131,8 @@ accepting t code room room' bs bs' h r c f m b l e =
 pub accepted_of : {I : Type 0} (r : Result Accepted ReadFault) (o : Outcome I) (old os : List (Operation I)) → shown r ≡ answered o → os ≡ held old o →
     IfOk r (λ a. o ≡ accepted (contents_of a os))
 accepted_of (Err f) o old os e h = tt
-accepted_of (Ok a) (unread f) old os e h = let z : ◌≡◌ {A = ℕ} 0 1 = cc in absurd (omega arith)
-accepted_of (Ok a) (refused fs i f) old os e h = let z : ◌≡◌ {A = ℕ} 0 1 = cc in absurd (omega arith)
+accepted_of (Ok a) (unread f) old os e h = absurd cc
+accepted_of (Ok a) (refused fs i f) old os e h = absurd cc
 accepted_of {I} (Ok a) (accepted c) old os e h =
     let p : said a ≡ saying_of c = cc in
     let with-ops : Said → List (Operation I) → Contents I = λ s ops. contents s.kind s.k ops s.order in

@@ -76,19 +76,19 @@ module _ {I : Type 0} (t : Ghosts I) (room : ℕ) where
   entered_back os x op (Ok at) p e =
       let q : x ≡ op = cc in
       (q, ap (enter_answer t.number room os) (sym q) ∙ enter_number t.number room at os x p)
-  entered_back os x op (Err f) p e = let z : ◌≡◌ {A = ℕ} 0 1 = cc in absurd (omega arith)
+  entered_back os x op (Err f) p e = absurd cc
 
   decoded_back : (os : List (Operation I)) (op : Operation I) (r : Result (Operation I) RecordFault) → if_decoded t room os r ≡ Ok op →
       (r ≡ Ok op) × (enter_answer t.number room os op ≡ Ok (length os))
   decoded_back os op (Ok x) e =
       let p = entered_back os x op (enter_answer t.number room os x) refl e in
       (ap (λ o. Ok o) p.0, p.1)
-  decoded_back os op (Err f) e = let z : ◌≡◌ {A = ℕ} 0 1 = cc in absurd (omega arith)
+  decoded_back os op (Err f) e = absurd cc
 
   after_back : (os fin : List (Operation I)) (i : ℕ) (r : Result (Operation I) EntryFault) → after os i r ≡ going fin →
       (op : Operation I) × (r ≡ Ok op) × (fin ≡ os ++ op ∷ [])
   after_back os fin i (Ok op) e = (op, refl, cc)
-  after_back os fin i (Err f) e = let z : ◌≡◌ {A = ℕ} 0 1 = cc in absurd (omega arith)
+  after_back os fin i (Err f) e = absurd cc
 
 module _ {I : Type 0} (t : Ghosts I) (law : Lawful t) (room : ℕ) (bs : List ℕ) where
   -- what was taken are operations that enter in turn, and the bytes are theirs
@@ -120,7 +120,7 @@ module _ {I : Type 0} (t : Ghosts I) (law : Lawful t) (room : ℕ) (bs : List �
   next_back : (n : ℕ) (fin : List (Operation I)) (r : Run I) → Bytes bs → 8 + 24 * suc n ≤ length bs →
       ((os : List (Operation I)) → r ≡ going os → Took n os) → next t room bs n r ≡ going fin → Took (suc n) fin
   next_back n fin (going os) b l before e = took_more n os fin b l (before os refl) e
-  next_back n fin (stopped os j f) b l before e = let z : ◌≡◌ {A = ℕ} 0 1 = cc in absurd (omega arith)
+  next_back n fin (stopped os j f) b l before e = absurd cc
 
   pub run_back : (n : ℕ) (os : List (Operation I)) → Bytes bs → 8 + 24 * n ≤ length bs → run t room bs n ≡ going os → Took n os
   run_back zero os b l e =

@@ -1,5 +1,5 @@
 -- Writing a trace part by part.
-use Rattle.std.proofs.Common.{◌≡◌, ℕ, ◌+◌, ◌*◌, ◌^◌, ◌<◌, ◌≤◌, false, not, eqb, ltb, List, [], ◌∷◌, ◌++◌, length, get_or, take, drop, Ok, sym, refl, ap, ◌∙◌, append-nil, mul-suc, add-one, arith, length-append, length-take-le, take_all, take_at, drop_at}
+use Rattle.std.proofs.Common.{◌≡◌, ℕ, ◌+◌, ◌*◌, ◌^◌, ◌<◌, ◌≤◌, false, not, eqb, ltb, List, [], ◌∷◌, ◌++◌, length, get_or, take, drop, Ok, sym, refl, ap, ◌∙◌, append_assoc, append-nil, mul-zero, mul-suc, add-one, arith, length-append, length-take-le, take_all, take_at, drop_at}
 use Rattle.std.proofs.lemmas.List.{drop-drop, take-append-drop, take_more, flat_map_more}
 use Rattle.std.proofs.lemmas.Bool.Decides.{nat_tests}
 use Rattle.std.specs.List.{flat_map}
@@ -32,32 +32,37 @@ grow front mem out out' part at w to l e f g =
     let d : drop (at + w) out ≡ drop (at + w) mem = sym (drop-drop w at out) ∙ ap (drop w) b ∙ drop-drop w at mem in
     f ∙ ap (λ p. p ++ part ++ drop (at + w) out) a ∙ ap (λ q. front ++ part ++ q) d ∙ ap (λ k. front ++ part ++ drop k mem) g
 
-module _ {X : Type 0} (f : X → List ℕ) (w : ℕ) (each : (x : X) → length (f x) ≡ w) (p : ℕ) (mem : List ℕ) (xs : List X) where
-  -- one element more, none yet, and all
-  pub laid : (out out' part : List ℕ) (i : ℕ) (x : X) → p ≤ length mem → i < length xs → x ≡ get_or xs i x → part ≡ f x →
-      out ≡ take p mem ++ flat_map f (take i xs) ++ drop (p + w * i) mem →
-      out' ≡ take (p + w * i) out ++ part ++ drop (p + w * i + length part) out →
-      out' ≡ take p mem ++ flat_map f (take (i + 1) xs) ++ drop (p + w * (i + 1)) mem
-  laid out out' part i x h l e g o n =
+module _ {X : Type 0} (f : X → List ℕ) (w p : ℕ) (mem : List ℕ) (xs : List X) where
+  -- rows laid one after another, as far as the first i
+  pub record Laid (out : List ℕ) (i : ℕ) : Type 0 where
+    pub long : length (flat_map f (take i xs)) ≡ w * i
+    pub bytes : out ≡ take p mem ++ flat_map f (take i xs) ++ drop (p + w * i) mem
+
+  -- none yet, one more, and all
+  pub laid_none : p ≤ length mem → Laid mem 0
+  laid_none h =
+      let e : p + w * 0 ≡ p = let z = mul-zero w in omega arith in
+      record { long = sym (mul-zero w); bytes = rw (e, append-nil) (sym (take-append-drop p mem)) }
+
+  pub laid_more : (out out' part : List ℕ) (i : ℕ) (x : X) → p ≤ length mem → i < length xs → x ≡ get_or xs i x → part ≡ f x → length part ≡ w →
+      Laid out i → out' ≡ take (p + w * i) out ++ part ++ drop (p + w * i + length part) out → Laid out' (i + 1)
+  laid_more out out' part i x h l e g v o n =
       let a = length-take-le p mem h in
-      let b = length_joined f w each (take i xs) ∙ ap (λ m. w * m) (length-take-le i xs (omega arith)) in
+      let b = o.long in
       let m = ap (λ k. w * k) (add-one i) ∙ mul-suc w i in
       let t : take (i + 1) xs ≡ take i xs ++ x ∷ [] = take_more xs i x l ∙ ap (λ y. take i xs ++ y ∷ []) (sym e) in
-      let v : length part ≡ w = ap length g ∙ each x in
-      grow (take p mem ++ flat_map f (take i xs)) mem out out' part (p + w * i) (length part) (p + w * (i + 1)) (rw length-append (omega arith)) o n (omega arith)
-      ∙ ap (λ y. (take p mem ++ flat_map f (take i xs)) ++ y ++ drop (p + w * (i + 1)) mem) g
-      ∙ ap (λ z. z ++ drop (p + w * (i + 1)) mem) (flat_map_more f (take p mem) (take i xs) x ∙ ap (λ z. take p mem ++ flat_map f z) (sym t))
+      let more : flat_map f (take (i + 1) xs) ≡ flat_map f (take i xs) ++ f x = ap (flat_map f) t ∙ sym (flat_map_more f [] (take i xs) x) in
+      let u : length (f x) ≡ w = ap length (sym g) ∙ v in
+      record {
+        long = ap length more ∙ length-append (flat_map f (take i xs)) (f x) ∙ omega arith;
+        bytes =
+            grow (take p mem ++ flat_map f (take i xs)) mem out out' part (p + w * i) (length part) (p + w * (i + 1)) (rw length-append (omega arith)) o.bytes n (omega arith)
+            ∙ ap (λ y. (take p mem ++ flat_map f (take i xs)) ++ y ++ drop (p + w * (i + 1)) mem) g
+            ∙ ap (λ z. z ++ drop (p + w * (i + 1)) mem) (append_assoc (take p mem) (flat_map f (take i xs)) (f x) ∙ ap (λ z. take p mem ++ z) (sym more));
+      }
 
-  pub laid_none : p ≤ length mem → mem ≡ take p mem ++ flat_map f (take 0 xs) ++ drop (p + w * 0) mem
-  laid_none h = let e : p + w * 0 ≡ p = omega arith in rw (e, append-nil) (sym (take-append-drop p mem))
-
-  pub laid_all : (out : List ℕ) (i : ℕ) → i ≡ length xs → out ≡ take p mem ++ flat_map f (take i xs) ++ drop (p + w * i) mem →
-      out ≡ take p mem ++ flat_map f xs ++ drop (p + w * length xs) mem
-  laid_all out i e o = o ∙ ap (λ z. take p mem ++ flat_map f z ++ drop (p + w * i) mem) (take_all i xs (omega arith)) ∙ ap (λ k. take p mem ++ flat_map f xs ++ drop (p + w * k) mem) e
-
-pub small_push : (xs : List ℕ) (x : ℕ) → Small xs → x < 2 ^ 16 → Small (xs ++ x ∷ [])
-small_push [] x a f = (f, tt)
-small_push (y ∷ xs) x a f = (a.0, small_push xs x a.1 f)
+  pub laid_all : (out : List ℕ) (i : ℕ) → i ≡ length xs → Laid out i → out ≡ take p mem ++ flat_map f xs ++ drop (p + w * length xs) mem
+  laid_all out i e o = o.bytes ∙ ap (λ z. take p mem ++ flat_map f z ++ drop (p + w * i) mem) (take_all i xs (omega arith)) ∙ ap (λ k. take p mem ++ flat_map f xs ++ drop (p + w * k) mem) e
 
 -- the three parts of a trace
 pub whole : {I : Type 0} (t : Ghosts I) (code kind k : ℕ) (ops : List (Operation I)) (order head mem o₁ o₂ o₃ : List ℕ) → code ≡ t.TYPE → length order ≡ length ops →

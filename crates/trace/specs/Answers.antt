@@ -1,7 +1,5 @@
 -- What is answered, and what a sheet then holds.
-use Rattle.std.specs.Prelude.{◌≡◌, ℕ, List, Ok, Err, Result}
-use Rattle.sheet.specs.Sheets.{entered, memory, room, filled}
-use Rattle.sheet.specs.declared.sheet.Sheet.{Sheet}
+use Rattle.std.specs.Prelude.{ℕ, List, Ok, Err, Result}
 use Rattle.sheet.specs.declared.operation.Operation.{Operation}
 use Rattle.trace.specs.declared.fault.EntryFault.{EntryFault}
 use Rattle.trace.specs.declared.fault.RefusedRecord.{RefusedRecord}
@@ -45,12 +43,6 @@ module _ {I : Type 0} where
   abbrev pub left_by : Result (Unit {0}) RefusedRecord → List (Operation I) → Run I
   left_by (Ok u) os = going os
   left_by (Err r) os = stopped os r.place r.fault
-
--- a sheet over the same records, of which only those of its operations may have changed
-pub record Refilled {I : Type 0} (before after : Sheet I) : Type 0 where
-  pub memory : memory after ≡ filled (entered after) (memory before)
-  pub room : room after ≡ room before
-  pub lender : after.records.ghost_name ≡ before.records.ghost_name
 
 abbrev pub said : Accepted → Said
 said a = record { kind = kind_number a.kind; k = a.k; order = order_of a.order }

@@ -1,6 +1,6 @@
 -- What a trace holds, and the bytes that say it.
-use Rattle.std.specs.Prelude.{◌≡◌, ℕ, ◌^◌, ◌<◌, ◌≤◌, List, [], ◌∷◌, ◌++◌, length}
-use Rattle.std.specs.List.{flat_map}
+use Rattle.std.specs.Prelude.{◌≡◌, ℕ, ◌^◌, ◌<◌, ◌≤◌, List, [], ◌++◌, length}
+use Rattle.std.specs.List.{AllByRecursion, flat_map}
 use Rattle.item.specs.declared.item.Item.{Ghosts}
 use Rattle.sheet.specs.declared.operation.Operation.{Operation}
 use Rattle.sheet.specs.Consistency.{Consistent}
@@ -24,8 +24,7 @@ module _ {I : Type 0} (t : Ghosts I) where
   encode c = bytes_of_header t.TYPE c.kind (length c.ops) c.k ++ flat_map (encode_record t) c.ops ++ flat_map (big 2) c.order
 
   abbrev pub AllFit : List (Operation I) → Type 0
-  AllFit [] = Unit {0}
-  AllFit (op ∷ ops) = Fit t op × AllFit ops
+  AllFit = AllByRecursion (Fit t)
 
   -- contents that a trace can have: a kind from 0 to 2, a k of 16 bits, operations that a sheet with that much room can hold,
   -- and an order of as many numbers of 16 bits

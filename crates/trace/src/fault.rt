@@ -11,28 +11,28 @@ use sheet::fault::SheetFault;
 use std::alloc::AllocError;
 
 // Why a record's operation is not entered.
-#[derive(Clone, Copy)]
+#[derive(Clone, Copy, PartialEq, Eq, Debug)]
 pub enum EntryFault {
     Record(RecordFault),
     Sheet(SheetFault),
 }
 
 // A fault with the number of the record that has it.
-#[derive(Clone, Copy)]
+#[derive(Clone, Copy, PartialEq, Eq, Debug)]
 pub struct RefusedRecord {
     pub place: u16,
     pub fault: EntryFault,
 }
 
 // Why a trace is not accepted.
-#[derive(Clone, Copy)]
+#[derive(Clone, Copy, PartialEq, Eq, Debug)]
 pub enum ReadFault {
     Frame(FrameFault),
     Entry(RefusedRecord),
 }
 
 // Why a trace is not written.
-#[derive(Clone, Copy)]
+#[derive(Clone, Copy, PartialEq, Eq, Debug)]
 pub enum WriteFault {
     // the kind is above 2
     Kind,
@@ -43,7 +43,7 @@ pub enum WriteFault {
 }
 
 // Why a trace is not read and written back.
-#[derive(Clone, Copy)]
+#[derive(Clone, Copy, PartialEq, Eq, Debug)]
 pub enum CopyFault {
     Reading(ReadFault),
     Writing(WriteFault),
@@ -55,9 +55,9 @@ impl EntryFault {
     pub fn refusal(&self, place: u16) -> Refusal
         ensures { result ≡ entry_refusal place self.now }
     {
-        match self {
+        match *self {
             EntryFault::Record(fault) => fault.refusal(place),
-            EntryFault::Sheet(fault) => fault.refusal(),
+            EntryFault::Sheet(fault) => Refusal::from(fault),
         }
     }
 }

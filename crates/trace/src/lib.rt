@@ -4,4 +4,5 @@
 pub mod copy;
 pub mod fault;
 pub mod read;
+mod row;
 pub mod write;

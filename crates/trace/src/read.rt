@@ -1,9 +1,9 @@
 ghost use Rattle.std.specs.Prelude.{◌≡◌, ℕ, ◌+◌, ◌*◌, ◌≤◌, [], length, IfOk, Ok};
-ghost use Rattle.sheet.specs.Sheets.{entered, room};
+ghost use Rattle.sheet.specs.Sheets.{entered, room, SameLoan};
 ghost use Rattle.frame.specs.Layout.{record_count};
 ghost use Rattle.trace.specs.Contents.{Contents, Sound, encode};
 ghost use Rattle.trace.specs.Reading.{after, taken, run, reading};
-ghost use Rattle.trace.specs.Answers.{answered, held, left_at, left_by, shown, saying_of, contents_of, Refilled};
+ghost use Rattle.trace.specs.Answers.{answered, held, left_at, left_by, shown, saying_of, contents_of};
 
 use crate::fault::{EntryFault, ReadFault, RefusedRecord};
 use frame::header::read_header;
@@ -26,7 +26,7 @@ pub struct Accepted<'a> {
 fn take_record<I: Item>(rec: &[u8], sheet: &mut Sheet<I>) -> Result<(), EntryFault>
     ensures step { (i : ℕ) → after (entered sheet.old) i (taken I.Item (room sheet.old) (entered sheet.old) rec.now) ≡ left_at i result (entered sheet.new) }
     ensures grows { length (entered sheet.old) ≤ length (entered sheet.new) }
-    ensures refilled { Refilled sheet.old sheet.new }
+    ensures loan { SameLoan sheet.old sheet.new }
 {
     let op = decode(rec)?;
     sheet.enter(op)?;
@@ -38,7 +38,7 @@ fn take_all<I: Item>(trace: &Trace, sheet: &mut Sheet<I>) -> Result<(), RefusedR
     requires few { record_count trace.now.bytes.now ≤ 1024 }
     requires empty { entered sheet.old ≡ [] }
     ensures run { run I.Item (room sheet.old) trace.now.bytes.now (record_count trace.now.bytes.now) ≡ left_by result (entered sheet.new) }
-    ensures refilled { Refilled sheet.old sheet.new }
+    ensures loan { SameLoan sheet.old sheet.new }
 {
     for (place, rec) in trace.records().iter().enumerate() {
         let place = place as u16;
@@ -51,7 +51,7 @@ fn take_all<I: Item>(trace: &Trace, sheet: &mut Sheet<I>) -> Result<(), RefusedR
 pub fn read<'a, I: Item>(bytes: &'a [u8], sheet: &mut Sheet<I>) -> Result<Accepted<'a>, ReadFault>
     ensures answer { shown result ≡ answered (reading I.Item (room sheet.old) bytes.now) }
     ensures entered { entered sheet.new ≡ held (entered sheet.old) (reading I.Item (room sheet.old) bytes.now) }
-    ensures refilled { Refilled sheet.old sheet.new }
+    ensures loan { SameLoan sheet.old sheet.new }
     ensures accepted_is_sound { IfOk result (λ a. Sound I.Item (room sheet.old) (contents_of a (entered sheet.new))) }
     ensures accepted_is_encoded { IfOk result (λ a. bytes.now ≡ encode I.Item (contents_of a (entered sheet.new))) }
     ensures encoded_sound_is_accepted { (c : Contents I) → Sound I.Item (room sheet.old) c → bytes.now ≡ encode I.Item c → (shown result ≡ Ok (saying_of c)) × (entered sheet.new ≡ c.ops) }

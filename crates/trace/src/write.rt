@@ -1,5 +1,5 @@
 ghost use Rattle.std.specs.Prelude.{◌≡◌, ℕ, ◌+◌, ◌*◌, ◌≤◌, ◌++◌, length, take, drop, is_ok, if◌then◌else◌, OnOk};
-ghost use Rattle.std.specs.List.{flat_map};
+ghost use Rattle.std.specs.List.{flat_map, AllByRecursion};
 ghost use Rattle.sheet.specs.Sheets.{entered};
 ghost use Rattle.record.specs.Bytes.{big};
 ghost use Rattle.record.specs.Records.{encode_record};
@@ -12,10 +12,9 @@ ghost use Rattle.trace.specs.Reading.Outcome.{accepted};
 ghost use Rattle.trace.specs.Writing.{writing};
 
 use crate::fault::WriteFault;
+use crate::row::Row;
 use frame::kind::Kind;
 use item::item::Item;
-use record::encoding::encode;
-use sheet::operation::Operation;
 use sheet::sheet::Sheet;
 
 // The bytes of a header.
@@ -40,25 +39,14 @@ fn paste(out: &mut [u8], at: usize, part: &[u8])
     out[at..at + part.len()].copy_from_slice(part);
 }
 
-// Writes a record for each operation, after the header.
-fn put_records<I: Item>(out: &mut [u8], ops: &[Operation<I>])
-    requires { 8 + 24 * length ops.now ≤ length out.old }
-    ensures bytes { out.new ≡ take 8 out.old ++ flat_map (encode_record I.Item) ops.now ++ drop (8 + 24 * length ops.now) out.old }
-    ensures fit { AllFit I.Item ops.now }
+// Writes the rows one after another, from `at` on.
+fn put_rows<T: Row<W>, const W: usize>(out: &mut [u8], at: usize, rows: &[T])
+    requires { at + W * length rows.now ≤ length out.old }
+    ensures bytes { out.new ≡ take at out.old ++ flat_map T.bytes rows.now ++ drop (at + W * length rows.now) out.old }
+    ensures fit { AllByRecursion T.fit rows.now }
 {
-    for i in 0..ops.len() {
-        paste(out, 8 + 24 * i, &encode(&ops[i]));
-    }
-}
-
-// Writes the numbers of an order from `at` on.
-fn put_order(out: &mut [u8], at: usize, order: &[u16])
-    requires { at + 2 * length order.now ≤ length out.old }
-    ensures bytes { out.new ≡ take at out.old ++ flat_map (big 2) order.now ++ drop (at + 2 * length order.now) out.old }
-    ensures small { Small order.now }
-{
-    for i in 0..order.len() {
-        paste(out, at + 2 * i, &order[i].to_be_bytes());
+    for (i, row) in rows.iter().enumerate() {
+        paste(out, at + W * i, &row.row());
     }
 }
 
@@ -83,7 +71,7 @@ pub fn write<I: Item>(
         return Err(WriteFault::Memory);
     }
     paste(out, 0, &header_bytes(I::TYPE, kind, ops.len() as u16, k));
-    put_records(out, ops);
-    put_order(out, 8 + 24 * ops.len(), order);
+    put_rows::<_, 24>(out, 8, ops);
+    put_rows::<_, 2>(out, 8 + 24 * ops.len(), order);
     Ok(())
 }

@@ -33,10 +33,7 @@ pub const TWO: [u8; 60] = [
 pub fn refusal_of<I: Item>(bytes: &[u8], sheet: &mut Sheet<I>) -> Option<Refusal>
     ensures { result ≡ refusal_in (reading I.Item (room sheet.old) bytes.now) }
 {
-    match read(bytes, sheet) {
-        Ok(_) => None,
-        Err(fault) => Some(fault.refusal()),
-    }
+    read(bytes, sheet).err().map(Refusal::from)
 }
 
 // An add of a ticket by thread 0, at the instant 0.

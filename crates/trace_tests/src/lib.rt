@@ -49,10 +49,16 @@ mod tests {
     // The refusal of the trace of one add, with one byte changed.
     fn changed(at: usize, to: u8) -> Option<Refusal> {
         let mut bytes = ONE;
-        if at < 34 {
-            bytes[at] = to;
+        if let Some(byte) = bytes.get_mut(at) {
+            *byte = to;
         }
         ticket_refusal(&bytes)
+    }
+
+    // The number of the refusal of writing tickets with that kind, k 1 and that order.
+    fn write_refusal(sheet: &Sheet<Ticket>, kind: u8, order: &[u16], out: &mut [u8]) -> Option<u8> {
+        let fault = write(sheet, kind, 1, order, out).err()?;
+        Some(Refusal::from(fault).number)
     }
 
     #[test]
@@ -88,26 +94,15 @@ mod tests {
     }
 
     #[test]
-    fn stamps(rt: HostRuntime) -> Result<(), Fail> {
+    fn stamps(rt: HostRuntime) {
         assert_eq!(rt; stamp_refusal(0x00), None);
         assert_eq!(rt; stamp_refusal(0x7f), None);
         assert_eq!(rt; stamp_refusal(0x01), refused(Layer::Item, 12, 0, 0));
         assert_eq!(rt; stamp_refusal(0x80), refused(Layer::Item, 12, 0, 0));
-        match Lane::new(64) {
-            Ok(_) => Err(Fail::new("lane 64 was made")),
-            Err(fault) => {
-                assert_eq!(rt;
-                    fault.refusal(0),
-                    Refusal {
-                        layer: Layer::Item,
-                        number: 12,
-                        place: 0,
-                        detail: 0,
-                    }
-                );
-                Ok(())
-            },
-        }
+        assert_eq!(rt;
+            Lane::try_from(64).err().map(|fault| fault.refusal(0)),
+            refused(Layer::Item, 12, 0, 0)
+        );
     }
 
     #[test]
@@ -140,7 +135,7 @@ mod tests {
     }
 
     #[test]
-    fn writing(rt: HostRuntime) -> Result<(), Fail> {
+    fn writing(rt: HostRuntime) {
         let mut memory = [add(0); 1];
         let mut sheet = Sheet::<Ticket>::new(&mut memory);
         assert!(rt; sheet.enter(add(5)).is_ok());
@@ -149,23 +144,16 @@ mod tests {
             write::<Ticket>(&sheet, 3, 1, &[0, 1], &mut out[0..33]).is_ok(),
             false
         );
-        match write::<Ticket>(&sheet, 3, 1, &[0, 1], &mut out[0..33]) {
-            Ok(_) => return Err(Fail::new("kind 3 was written")),
-            Err(fault) => assert_eq!(rt; fault.refusal().number, 3),
-        }
-        match write::<Ticket>(&sheet, 2, 1, &[0, 1], &mut out[0..33]) {
-            Ok(_) => return Err(Fail::new("an order of two was written")),
-            Err(fault) => assert_eq!(rt; fault.refusal().number, 52),
-        }
-        match write::<Ticket>(&sheet, 2, 1, &[0], &mut out[0..33]) {
-            Ok(_) => return Err(Fail::new("33 bytes held the trace")),
-            Err(fault) => assert_eq!(rt; fault.refusal().number, 51),
-        }
+        assert_eq!(rt; write_refusal(&sheet, 3, &[0, 1], &mut out[0..33]), Some(3));
+        assert_eq!(rt;
+            write_refusal(&sheet, 2, &[0, 1], &mut out[0..33]),
+            Some(52)
+        );
+        assert_eq!(rt; write_refusal(&sheet, 2, &[0], &mut out[0..33]), Some(51));
         assert!(rt; out == [9u8; 36]);
         assert!(rt; write::<Ticket>(&sheet, 2, 1, &[0], &mut out).is_ok());
         assert_eq!(rt; out[35], 9);
         assert_eq!(rt; ticket_refusal(&out[0..34]), None);
-        Ok(())
     }
 
     #[test]
@@ -174,22 +162,14 @@ mod tests {
         let mut memory = [add(0); 1025];
         let mut sheet = Sheet::<Ticket>::new(&mut memory);
         let mut order = Vec::new(heap);
-        for i in 0..1024u16 {
-            assert!(rt; sheet.enter(add(i as u32)).is_ok());
-            order.push(i)?;
+        for number in 0..1024u16 {
+            assert!(rt; sheet.enter(add(u32::from(number))).is_ok());
+            order.push(number)?;
         }
-        match sheet.enter(add(5000)) {
-            Ok(_) => return Err(Fail::new("the sheet took 1,025 operations")),
-            Err(fault) => assert_eq!(rt;
-                fault.refusal(),
-                Refusal {
-                    layer: Layer::Sheet,
-                    number: 20,
-                    place: 1024,
-                    detail: 0,
-                }
-            ),
-        }
+        assert_eq!(rt;
+            sheet.enter(add(5000)).err().map(Refusal::from),
+            refused(Layer::Sheet, 20, 1024, 0)
+        );
         let mut out = vec![in heap; 0u8; 26632]?;
         assert!(rt; write::<Ticket>(&sheet, 0, 1, order.as_slice(), out.as_mut_slice()).is_ok());
         let mut other = [add(0); 1024];

@@ -3,7 +3,7 @@ ghost use Rattle.std.specs.List.{slice_get};
 ghost use Rattle.sheet.specs.Entering.{enter_answer, repeated_fault};
 ghost use Rattle.sheet.specs.Pairing.{pair_of, Pairs};
 ghost use Rattle.sheet.specs.Consistency.{Consistent};
-ghost use Rattle.sheet.specs.Sheets.{memory, entered, room, filled};
+ghost use Rattle.sheet.specs.Sheets.{memory, entered, room, SameLoan};
 
 use crate::alike::first_alike;
 use crate::fault::SheetFault;
@@ -11,28 +11,6 @@ use crate::operation::{Method, Operation};
 use crate::pairing::add_of;
 use crate::sheet::Sheet;
 use item::item::Item;
-
-// What entering an operation after those entered would answer, in a sheet with that much room.
-fn judge<I: Item>(
-    entered: &[Operation<I>],
-    room: usize,
-    op: &Operation<I>,
-) -> Result<u16, SheetFault>
-    requires { length entered.now ≤ 1024 }
-    ensures { result ≡ enter_answer I.Item.number room entered.now op.now }
-{
-    let place = entered.len() as u16;
-    if entered.len() >= room {
-        return Err(SheetFault::Full { place });
-    }
-    if op.end < op.start {
-        return Err(SheetFault::EndBeforeStart { place });
-    }
-    if let Some(earlier) = first_alike(entered, &op.method) {
-        return Err(repeated(&op.method, place, earlier as u16));
-    }
-    Ok(place)
-}
 
 // The fault of an operation that does again what an earlier one did.
 fn repeated<I: Item>(method: &Method<I>, place: u16, earlier: u16) -> SheetFault
@@ -65,30 +43,36 @@ impl<'a, I: Item> Sheet<'a, I> {
     pub fn judge(&self, op: &Operation<I>) -> Result<u16, SheetFault>
         ensures { result ≡ enter_answer I.Item.number (room self.now) (entered self.now) op.now }
     {
-        judge(self.all(), self.room(), op)
+        let entered = self.all();
+        let place = entered.len() as u16;
+        if entered.len() >= self.room() {
+            return Err(SheetFault::Full { place });
+        }
+        if op.end < op.start {
+            return Err(SheetFault::EndBeforeStart { place });
+        }
+        match first_alike(entered, &op.method) {
+            Some(earlier) => Err(repeated(&op.method, place, earlier as u16)),
+            None => Ok(place),
+        }
     }
 
     // Enters an operation and answers its number, or refuses it and changes nothing.
     pub fn enter(&mut self, op: Operation<I>) -> Result<u16, SheetFault>
         ensures answer { result ≡ enter_answer I.Item.number (room self.old) (entered self.old) op }
         ensures entered { entered self.new ≡ (if is_ok result then entered self.old ++ op ∷ [] else entered self.old) }
-        ensures memory { memory self.new ≡ filled (entered self.new) (memory self.old) }
-        ensures room { room self.new ≡ room self.old }
-        ensures lender { self.new.records.ghost_name ≡ self.old.records.ghost_name }
+        ensures loan { SameLoan self.old self.new }
     {
         let number = self.judge(&op)?;
-        let count = self.count;
-        self.records[count] = op;
-        self.count = count + 1;
+        self.records[self.count] = op;
+        self.count += 1;
         Ok(number)
     }
 
     // Empties the sheet; the records stay as they are.
     pub fn clear(&mut self)
         ensures entered { entered self.new ≡ [] }
-        ensures memory { memory self.new ≡ memory self.old }
-        ensures room { room self.new ≡ room self.old }
-        ensures lender { self.new.records.ghost_name ≡ self.old.records.ghost_name }
+        ensures loan { SameLoan self.old self.new }
     {
         self.count = 0;
     }
@@ -106,30 +90,14 @@ impl<'a, I: Item> Sheet<'a, I> {
         ensures few { length result.now ≤ 1024 }
         ensures consistent { ∥ Consistent [] result.now ∥₁ }
     {
-        let count = self.count;
-        &self.records[0..count]
+        &self.records[..self.count]
     }
 
     // The operation of a number, or none.
     pub fn operation(&self, number: usize) -> Option<Operation<I>>
         ensures { result ≡ slice_get (entered self.now) number }
     {
-        let all = self.all();
-        if number < all.len() {
-            Some(all[number])
-        } else {
-            None
-        }
-    }
-
-    // The number of the add that the operation of that number is found to belong to.
-    fn find_pair(&self, number: usize) -> Option<usize>
-        ensures { result ≡ pair_of I.Item.number (entered self.now) (slice_get (entered self.now) number) }
-    {
-        match self.operation(number)?.method {
-            Method::Take(item) => add_of(self.all(), &item),
-            _ => None,
-        }
+        self.all().get(number).copied()
     }
 
     // The pairing: the number of the add that the take of that number belongs to, or none.
@@ -137,6 +105,9 @@ impl<'a, I: Item> Sheet<'a, I> {
         ensures answer { result ≡ pair_of I.Item.number (entered self.now) (slice_get (entered self.now) number) }
         ensures lowest_add_of_the_item { Pairs I.Item.number (entered self.now) (slice_get (entered self.now) number) result }
     {
-        self.find_pair(number)
+        match self.operation(number)?.method {
+            Method::Take(item) => add_of(self.all(), &item),
+            _ => None,
+        }
     }
 }

@@ -6,12 +6,12 @@ use Rattle.frame.proofs.RecordPlaces.{length_records, record_in_turn}
 use Rattle.trace.specs.Reading.{run}
 use Rattle.trace.specs.Reading.Run.{going}
 use Rattle.trace.specs.Answers.{left_by}
-use Rattle.trace.proofs.Refills.{refilled_same, refilled_twice}
+use Rattle.sheet.proofs.Fills.{loan_same, loan_twice}
 use Rattle.trace.proofs.Runs.{placed, left_placed, turn, turned_away}
 use Rattle.trace.proofs.read.take_all.Goals as goal
 
 pub loop-place-init : goal.loop-place-init
-loop-place-init g c = record { taken = ap (λ os. going os) (sym c.requires.empty); refilled = refilled_same c.args.sheet.now }
+loop-place-init g c = record { taken = ap (λ os. going os) (sym c.requires.empty); loan = loan_same c.args.sheet.now }
 
 pub overflow_cast-place : goal.overflow_cast-place
 overflow_cast-place g c =
@@ -35,9 +35,9 @@ returns-in_err-map_err g c =
     let left = e.step i ∙ left_placed i c.take_record.result (entered fin) ∙ ap (λ r. left_by r (entered fin)) (sym q ∙ c.in_err-map_err.was) in
     rw (p.1, p.2) (record {
       run =
-          turned_away g.I.Item (room c.args.sheet.now) bs i (record_count bs) fault.place (room s) (entered s) (entered fin) _ fault.fault v.taken v.refilled.room here
+          turned_away g.I.Item (room c.args.sheet.now) bs i (record_count bs) fault.place (room s) (entered s) (entered fin) _ fault.fault v.taken v.loan.room here
           left inside;
-      refilled = refilled_twice c.args.sheet.now s fin e.grows v.refilled e.refilled;
+      loan = loan_twice c.args.sheet.now s fin v.loan e.loan e.grows;
     })
 
 pub loop-place-preserved : goal.loop-place-preserved
@@ -54,8 +54,8 @@ loop-place-preserved g c =
     let q : c.map_err.result ≡ placed c.loop-place.place c.take_record.result = search rules in
     let left = e.step i ∙ left_placed i c.take_record.result (entered fin) ∙ ap (λ r. left_by r (entered fin)) (sym q ∙ c.in_ok-map_err.was) in
     record {
-      taken = turn g.I.Item (room c.args.sheet.now) bs i (room s) (entered s) _ _ v.taken v.refilled.room here left;
-      refilled = refilled_twice c.args.sheet.now s fin e.grows v.refilled e.refilled;
+      taken = turn g.I.Item (room c.args.sheet.now) bs i (room s) (entered s) _ _ v.taken v.loan.room here left;
+      loan = loan_twice c.args.sheet.now s fin v.loan e.loan e.grows;
     }
 
 pub returns : goal.returns
@@ -64,4 +64,4 @@ returns g c =
     let v = c.loop-place.invariant in
     let l = ap length c.records-rec-items.ensures ∙ length_records bs in
     let e : record_count c.args.trace.now.bytes.now ≡ c.loop-place.place = omega arith in
-    record { run = ap (run g.I.Item (room c.args.sheet.now) bs) e ∙ v.taken; refilled = v.refilled }
+    record { run = ap (run g.I.Item (room c.args.sheet.now) bs) e ∙ v.taken; loan = v.loan }

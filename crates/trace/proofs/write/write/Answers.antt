@@ -1,6 +1,6 @@
 use Rattle.std.proofs.Common.{◌≡◌, ◌+◌, ◌*◌, ◌≤◌, [], ◌++◌, length, drop, Ok, ap, ◌∙◌, subst, arith, rules}
 use mathlib.Core.Logic.{∥∥₁_map}
-use Rattle.item.specs.Items.{Lawful}
+use Rattle.item.proofs.Laws.{lawful}
 use Rattle.sheet.specs.Consistency.{Consistent}
 use Rattle.sheet.specs.Sheets.{entered}
 use Rattle.frame.specs.Headers.{bytes_of_header}
@@ -13,8 +13,7 @@ use Rattle.trace.proofs.write.write.Goals as goal
 pub returns : goal.returns
 returns g c =
     let t = g.I.Item in
-    let met = g.met.I.Item in
-    let law : Lawful g.I.Item = record { coded = met.coded; small = met.small; there = met.there; back = met.back } in
+    let law = lawful g.met.I.Item in
     let ops = c.all-ops.result.now in
     let items = c.all-ops.ensures.entered in
     let k = c.args.k in
@@ -26,10 +25,10 @@ returns g c =
     let head = c.header_bytes.ensures ∙ ap (λ m. bytes_of_header c.TYPE.result m (length ops) k) number in
     let n : length ops ≡ length (entered c.args.sheet.now) = ap length items in
     let bytes =
-    whole t c.TYPE.result c.args.kind k ops order c.header_bytes.result mem c.paste.new.out c.put_records.new.out c.put_order.new.out
-    c.TYPE.ensures c.if-order-ops.false head c.paste.ensures c.put_records.ensures.bytes c.put_order.ensures.bytes
+    whole t c.TYPE.result c.args.kind k ops order c.header_bytes.result mem c.paste.new.out c.put_rows.new.out c.put_rows-2.new.out
+    c.TYPE.ensures c.if-order-ops.false head c.paste.ensures c.put_rows.ensures.bytes c.put_rows-2.ensures.bytes
     ∙ ap (λ z. encode t (contents c.args.kind k z order) ++ drop (8 + 26 * length z) mem) items in
-    let fits = subst (AllFit t) items c.put_records.ensures.fit in
+    let fits = subst (AllFit t) items c.put_rows.ensures.fit in
     let few : length (entered c.args.sheet.now) ≤ 1024 = omega (arith, c.all-ops.ensures.few) in
     let kind : c.args.kind ≤ 2 = omega (arith, number) in
     let consistent = ∥∥₁_map c.all-ops.ensures.consistent (subst (Consistent []) items) in
@@ -37,6 +36,6 @@ returns g c =
       answer = answering c.args.kind (length (entered c.args.sheet.now)) (length order) (length mem) kind (c.if-order-ops.false ∙ n) (omega arith);
       bytes = bytes;
       reads_as_what_went_in =
-          reads_back t law c.args.kind k (entered c.args.sheet.now) order c.put_order.new.out (drop (8 + 26 * length (entered c.args.sheet.now)) mem)
-          kind (omega arith) few (c.if-order-ops.false ∙ n) c.put_order.ensures.small fits consistent bytes;
+          reads_back t law c.args.kind k (entered c.args.sheet.now) order c.put_rows-2.new.out (drop (8 + 26 * length (entered c.args.sheet.now)) mem)
+          kind (omega arith) few (c.if-order-ops.false ∙ n) c.put_rows-2.ensures.fit fits consistent bytes;
     }
