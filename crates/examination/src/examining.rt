@@ -1,18 +1,21 @@
 // From the bytes of a trace to the certificate of its order.
 ghost use Rattle.std.specs.Prelude.{◌≡◌, ℕ, min, true, false, ◌⊎◌, length, IfOk, vec_len, ◌==◌};
 ghost use Rattle.sheet.specs.Sheets.{entered};
+ghost use Rattle.frame.specs.Kinds.{kind_number};
 ghost use Rattle.frame.specs.Orders.{order_of};
 ghost use Rattle.trace.specs.Faults.{read_refusal};
 ghost use Rattle.trace.specs.Reading.{reading};
 ghost use Rattle.docket.specs.Pairs.{sheet_ops};
-ghost use Rattle.docket.specs.InStep.{three};
+ghost use Rattle.docket.specs.Lent.{held, SameSlices};
 ghost use Rattle.examination.specs.declared.examining.ExamineFault.TheVariants.{Refused, NoMemory};
 ghost use Rattle.examination.specs.Kinds.{seat_of};
 ghost use Rattle.examination.specs.Orders.{order_answer, order_written};
 ghost use Rattle.examination.specs.Traces.{examining, type_of, examination_of, Comes};
 
-use crate::kind::certify_by_kind;
+use crate::kind::certify_of_kind;
+use crate::proposal::Proposal;
 use calls::certificate::Certificate;
+use docket::buffers::Buffers;
 use item::item::Item;
 use item::stamp::Stamp;
 use item::ticket::Ticket;
@@ -50,7 +53,7 @@ impl From<ReadFault> for ExamineFault {
     ghost from_gives = { λ e r. r ≡ Refused (read_refusal e) };
 
     fn from(fault: ReadFault) -> ExamineFault {
-        ExamineFault::Refused(fault.refusal())
+        ExamineFault::Refused(fault.into())
     }
 }
 
@@ -79,22 +82,17 @@ fn certify_accepted<'a, I: Item>(
     heap: Global,
     sheet: &Sheet<'a, I>,
     accepted: &Accepted,
-    ranks: &mut [u16],
-    instants: &mut [u64],
-    latenesses: &mut [u16],
+    buffers: &mut Buffers,
 ) -> Result<Certificate, ExamineFault>
-    ensures { Comes (record { answer = order_answer (seat_of accepted.now.kind) (sheet_ops I.Item.number sheet.now) accepted.now.k (order_of accepted.now.order) (three ranks.old instants.old latenesses.old); buffers = order_written (seat_of accepted.now.kind) (sheet_ops I.Item.number sheet.now) accepted.now.k (order_of accepted.now.order) (three ranks.old instants.old latenesses.old) }) (three ranks.old instants.old latenesses.old) result (three ranks.new instants.new latenesses.new) }
+    ensures comes { Comes (record { answer = order_answer (seat_of (kind_number accepted.now.kind)) (sheet_ops I.Item.number sheet.now) accepted.now.k (order_of accepted.now.order) (held buffers.old); buffers = order_written (seat_of (kind_number accepted.now.kind)) (sheet_ops I.Item.number sheet.now) accepted.now.k (order_of accepted.now.order) (held buffers.old) }) (held buffers.old) result (held buffers.new) }
+    ensures lenders { SameSlices buffers.old buffers.new }
 {
     let order = accepted.order.numbers(heap)?;
-    let certificate = certify_by_kind(
-        sheet,
-        accepted.kind,
-        accepted.k,
-        order.as_slice(),
-        ranks,
-        instants,
-        latenesses,
-    )?;
+    let proposal = Proposal {
+        k: accepted.k,
+        order: order.as_slice(),
+    };
+    let certificate = certify_of_kind(sheet, accepted.kind, &proposal, buffers)?;
     Ok(certificate)
 }
 
@@ -103,51 +101,41 @@ fn certify_onto<I: Item>(
     heap: Global,
     bytes: &[u8],
     records: &mut [Operation<I>],
-    ranks: &mut [u16],
-    instants: &mut [u64],
-    latenesses: &mut [u16],
+    buffers: &mut Buffers,
 ) -> Result<Certificate, ExamineFault>
-    ensures { Comes (examining I.Item (three ranks.old instants.old latenesses.old) (reading I.Item (min (length records.old) 1024) bytes.now)) (three ranks.old instants.old latenesses.old) result (three ranks.new instants.new latenesses.new) }
+    ensures comes { Comes (examining I.Item (held buffers.old) (reading I.Item (min (length records.old) 1024) bytes.now)) (held buffers.old) result (held buffers.new) }
+    ensures lenders { SameSlices buffers.old buffers.new }
 {
     let mut sheet = Sheet::new(records);
     let accepted = read(bytes, &mut sheet)?;
-    certify_accepted(heap, &sheet, &accepted, ranks, instants, latenesses)
+    certify_accepted(heap, &sheet, &accepted, buffers)
 }
 
 // Examines a trace of that item type.
 fn certify_of<I: Item>(
     heap: Global,
     bytes: &[u8],
-    ranks: &mut [u16],
-    instants: &mut [u64],
-    latenesses: &mut [u16],
+    buffers: &mut Buffers,
 ) -> Result<Certificate, ExamineFault>
-    ensures { Comes (examining I.Item (three ranks.old instants.old latenesses.old) (reading I.Item 1024 bytes.now)) (three ranks.old instants.old latenesses.old) result (three ranks.new instants.new latenesses.new) }
+    ensures comes { Comes (examining I.Item (held buffers.old) (reading I.Item 1024 bytes.now)) (held buffers.old) result (held buffers.new) }
+    ensures lenders { SameSlices buffers.old buffers.new }
 {
     let mut records = blank_records::<I>(heap, 1024)?;
-    certify_onto(
-        heap,
-        bytes,
-        records.as_mut_slice(),
-        ranks,
-        instants,
-        latenesses,
-    )
+    certify_onto(heap, bytes, records.as_mut_slice(), buffers)
 }
 
 // Reads a trace and certifies its order into the buffers. Refused, or for want of memory, it leaves them as they were.
 pub fn certify_trace(
     heap: Global,
     bytes: &[u8],
-    ranks: &mut [u16],
-    instants: &mut [u64],
-    latenesses: &mut [u16],
+    buffers: &mut Buffers,
 ) -> Result<Certificate, ExamineFault>
-    ensures { Comes (examination_of bytes.now (three ranks.old instants.old latenesses.old)) (three ranks.old instants.old latenesses.old) result (three ranks.new instants.new latenesses.new) }
+    ensures comes { Comes (examination_of bytes.now (held buffers.old)) (held buffers.old) result (held buffers.new) }
+    ensures lenders { SameSlices buffers.old buffers.new }
 {
     if has_stamps(bytes) {
-        certify_of::<Stamp>(heap, bytes, ranks, instants, latenesses)
+        certify_of::<Stamp>(heap, bytes, buffers)
     } else {
-        certify_of::<Ticket>(heap, bytes, ranks, instants, latenesses)
+        certify_of::<Ticket>(heap, bytes, buffers)
     }
 }

@@ -5,3 +5,4 @@
 pub mod certifying;
 pub mod examining;
 pub mod kind;
+pub mod proposal;

@@ -9,6 +9,7 @@ use Rattle.std.specs.Option.{option_map}
 use Rattle.refusal.proofs.Checks.{passed}
 use Rattle.item.specs.declared.item.Item.{Ghosts}
 use Rattle.sheet.specs.declared.operation.Operation.{Operation}
+use Rattle.frame.specs.Kinds.{kind_number}
 use Rattle.frame.specs.Orders.{order_of}
 use Rattle.trace.specs.declared.fault.CopyFault.{CopyFault}
 use Rattle.trace.specs.declared.fault.CopyFault.TheVariants.{Reading, Writing, NoMemory}
@@ -40,13 +41,13 @@ never_differs out bs mem r n o l t =
 -- an outcome that is said to be accepted
 module _ {I : Type 0} (t : Ghosts I) where
   accepted_said : (a : Accepted) (c : _) (os : List (Operation I)) → saying_of {I = I} c ≡ said a → os ≡ c.ops →
-      verdict_of_order t (seat_of a.kind) os a.k (order_of a.order) ≡ saying t (accepted c)
+      verdict_of_order t (seat_of (kind_number a.kind)) os a.k (order_of a.order) ≡ saying t (accepted c)
   accepted_said a c os e h =
-      ap (λ z. verdict_of_order t (seat_of a.kind) z a.k (order_of a.order)) h
+      ap (λ z. verdict_of_order t (seat_of (kind_number a.kind)) z a.k (order_of a.order)) h
       ∙ ap (λ (s : Said). verdict_of_order t (seat_of s.kind) c.ops s.k s.order) (sym e)
 
   pub examined_said : (o : Outcome I) (old os : List (Operation I)) (size : ℕ) (a : Accepted) → Ok (said a) ≡ copying size o → os ≡ held old o →
-      verdict_of_order t (seat_of a.kind) os a.k (order_of a.order) ≡ saying t o
+      verdict_of_order t (seat_of (kind_number a.kind)) os a.k (order_of a.order) ≡ saying t o
   examined_said (unread f) old os size a e h = let z : ◌≡◌ {A = ℕ} 0 1 = cc in absurd (omega arith)
   examined_said (refused fs i f) old os size a e h = let z : ◌≡◌ {A = ℕ} 0 1 = cc in absurd (omega arith)
   examined_said (accepted c) old os size a e h =

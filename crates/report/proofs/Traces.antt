@@ -25,7 +25,7 @@ lawful_stamps = record { coded = search rules; small = search rules; there = sta
 
 module _ {I : Type 0} (t : Ghosts I) where
   -- a true trace has a header that names its item type
-  pub type_of_true : t.code < 16 → (bs : List ℕ) → TrueTrace t bs → type_of bs ≡ t.code
+  pub type_of_true : t.TYPE < 16 → (bs : List ℕ) → TrueTrace t bs → type_of bs ≡ t.TYPE
   unfolding big
   type_of_true low bs h =
       let c = h.contents in

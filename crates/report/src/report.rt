@@ -3,6 +3,7 @@ ghost use Rattle.item.specs.Tickets.{ticket_items};
 ghost use Rattle.item.specs.Stamps.{stamp_items};
 ghost use Rattle.sheet.specs.Sheets.{entered};
 ghost use Rattle.std.specs.Option.{option_map};
+ghost use Rattle.frame.specs.Kinds.{kind_number};
 ghost use Rattle.frame.specs.Orders.{order_of};
 ghost use Rattle.trace.specs.Faults.{copy_refusal};
 ghost use Rattle.trace.specs.Reading.{reading};
@@ -13,6 +14,7 @@ ghost use Rattle.report.specs.Reports.{verdict_in, refusing, verdict_of_order, s
 
 use crate::verdict::{Report, refused, verdict_by_kind};
 use examination::examining::{blank_records, has_stamps};
+use examination::proposal::Proposal;
 use item::item::Item;
 use item::stamp::Stamp;
 use item::ticket::Ticket;
@@ -45,10 +47,14 @@ fn examined<I: Item>(
     sheet: &Sheet<I>,
     accepted: &Accepted,
 ) -> Result<Report, AllocError>
-    ensures { IfOk result (λ p. verdict_in p ≡ verdict_of_order I.Item (seat_of accepted.now.kind) (entered sheet.now) accepted.now.k (order_of accepted.now.order)) }
+    ensures { IfOk result (λ p. verdict_in p ≡ verdict_of_order I.Item (seat_of (kind_number accepted.now.kind)) (entered sheet.now) accepted.now.k (order_of accepted.now.order)) }
 {
     let order = accepted.order.numbers(heap)?;
-    verdict_by_kind(heap, sheet, accepted.kind, accepted.k, order.as_slice())
+    let proposal = Proposal {
+        k: accepted.k,
+        order: order.as_slice(),
+    };
+    verdict_by_kind(heap, sheet, accepted.kind, &proposal)
 }
 
 // The report of a fault.

@@ -1,42 +1,30 @@
-use Rattle.std.proofs.Common.{[], Err, sym, ap, ◌∙◌}
-use Rattle.calls.specs.declared.fault.RefusalCode.{RefusalCode}
-use Rattle.calls.specs.Faults.{code_of}
-use Rattle.calls.specs.Rules.{Run, run_of, certify_answer}
-use Rattle.docket.specs.InStep.{three}
+use Rattle.std.proofs.Common.{Ok, Err, sym, ap, ◌∙◌}
+use Rattle.std.proofs.lemmas.Result.{err_from_is_err_and}
+use Rattle.docket.specs.Lent.{held}
 use Rattle.docket.specs.Pairs.{sheet_ops}
-use Rattle.docket.specs.Tied.{ops_in, steps_in, bound_in, running}
 use Rattle.examination.specs.Orders.{refused_as}
-use Rattle.examination.proofs.Runs.{ran_whole, run_is, not_stopped, stopped_answer, certified_answer}
+use Rattle.examination.proofs.Runs.{certified_answer}
 use Rattle.examination.proofs.certifying.place_and_certify.Goals as goal
 
-pub returns-then-stopped-ne0 : goal.returns-then-stopped-ne0
-returns-then-stopped-ne0 g c =
+pub returns-in_err-certify : goal.returns-in_err-certify
+returns-in_err-certify g c =
     let o = c.open-docket.ensures in
-    let d = c.open-docket.result in
-    let seat = g.H.Holder.seat in
-    let ops = sheet_ops g.I.Item.number c.args.sheet.now in
-    let p = c.args.order.now in
-    let b = three c.args.ranks.now c.args.instants.now c.args.latenesses.now in
-    let same = run_is g.H.Holder.seat (ops_in d) ops (bound_in d) c.args.k (steps_in d) p o.table o.bound o.steps in
-    let code = (c.run.ensures.answer o.tied).1 ∙ ap (λ (z : Run). code_of z.stopped) same in
-    let a = stopped_answer seat ops p b (run_of g.H.Holder.seat ops c.args.k [] 0 p).stopped c.run.result.1 (certify_answer seat ops p b) code c.if-stopped-ne0.true in
-    record { answer = ap Err c.refusal_of.ensures ∙ a.0; written = a.1 }
+    let r = c.place_all-stopped.ensures in
+    let e = c.in_err-certify.ensures in
+    let a =
+    certified_answer g.H.Holder (sheet_ops g.I.Item.number c.args.sheet.now) c.args.proposal.now.k c.args.proposal.now.order.now (held c.args.buffers.now) c.open-docket.result
+    c.place_all-stopped.new.self (Err c.in_err-certify.field-0.0) (held c.certify.new.buffers) o.table o.bound o.steps (sym r.stopped ∙ c.in_default.is) r.table r.steps e.answer
+    e.written in
+    let q = err_from_is_err_and c.from_residual.result c.from_residual.ensures.1 in
+    record { answer = q.1 ∙ ap Err q.2 ∙ ap refused_as a.0; written = a.1; lenders = e.lenders }
 
 pub returns : goal.returns
 returns g c =
     let o = c.open-docket.ensures in
-    let r = c.run.ensures in
-    let d = c.open-docket.result in
-    let seat = g.H.Holder.seat in
-    let ops = sheet_ops g.I.Item.number c.args.sheet.now in
-    let p = c.args.order.now in
-    let b = three c.args.ranks.now c.args.instants.now c.args.latenesses.now in
-    let same = run_is g.H.Holder.seat (ops_in d) ops (bound_in d) c.args.k (steps_in d) p o.table o.bound o.steps in
-    let none = not_stopped (running g.H.Holder d p).stopped (sym (ap (λ (z : RefusalCode). z.number) (r.answer o.tied).1) ∙ c.if-stopped-ne0.false) in
-    let whole = sym (ap (λ (z : Run). z.stopped) same) ∙ none in
-    let placed = r.steps o.tied ∙ ap (λ (z : Run). z.steps) same ∙ ran_whole seat ops c.args.k p whole in
-    let e = c.certify.ensures in
+    let r = c.place_all-stopped.ensures in
+    let e = c.in_ok-certify.ensures in
     let a =
-    certified_answer seat ops p b (run_of g.H.Holder.seat ops c.args.k [] 0 p).stopped (ops_in c.run.new.self) (steps_in c.run.new.self) c.certify.result
-    (three c.certify.new.ranks c.certify.new.instants c.certify.new.latenesses) whole (r.table ∙ o.table) placed (e.answer (r.tied o.tied)) (e.written (r.tied o.tied)) in
-    record { answer = c.as_refusal.ensures ∙ ap refused_as a.0; written = a.1 }
+    certified_answer g.H.Holder (sheet_ops g.I.Item.number c.args.sheet.now) c.args.proposal.now.k c.args.proposal.now.order.now (held c.args.buffers.now) c.open-docket.result
+    c.place_all-stopped.new.self (Ok c.in_ok-certify.field-0) (held c.certify.new.buffers) o.table o.bound o.steps (sym r.stopped ∙ c.in_default.is) r.table r.steps e.answer
+    e.written in
+    record { answer = ap refused_as a.0; written = a.1; lenders = e.lenders }

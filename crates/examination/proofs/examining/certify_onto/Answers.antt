@@ -2,24 +2,24 @@ use Rattle.std.proofs.Common.{min, length, sym, ap, ◌∙◌, subst}
 use Rattle.std.proofs.lemmas.Result.{err_from_is_err_and}
 use Rattle.sheet.specs.Sheets.{entered, room}
 use Rattle.trace.specs.Reading.{reading}
-use Rattle.docket.specs.InStep.{three}
+use Rattle.docket.specs.Lent.{held}
 use Rattle.examination.specs.Traces.{Examined, examining, Comes}
 use Rattle.examination.proofs.Traces.{accepted_examined, refused_examined}
 use Rattle.examination.proofs.examining.certify_onto.Goals as goal
 
-pub returns : goal.returns
-returns g c =
+pub returns-clause-comes : goal.returns-clause-comes
+returns-clause-comes g c =
     let t = g.I.Item in
-    let b = three c.args.ranks.now c.args.instants.now c.args.latenesses.now in
+    let b = held c.args.buffers.now in
     let o = reading g.I.Item (room c.new-sheet.result) c.args.bytes.now in
     let e = c.in_ok-accepted.ensures in
     let same = ap (λ m. examining g.I.Item b (reading g.I.Item (min (length m) 1024) c.args.bytes.now)) c.new-sheet.ensures.memory in
-    subst (λ (x : Examined). Comes x b c.certify_accepted.result (three c.certify_accepted.new.ranks c.certify_accepted.new.instants c.certify_accepted.new.latenesses))
-    (accepted_examined t b o (entered c.new-sheet.result) (entered c.read.new.sheet) c.in_ok-accepted.accepted e.answer e.entered ∙ same) c.certify_accepted.ensures
+    subst (λ (x : Examined). Comes x b c.certify_accepted.result (held c.certify_accepted.new.buffers))
+    (accepted_examined t b o (entered c.new-sheet.result) (entered c.read.new.sheet) c.in_ok-accepted.accepted e.answer e.entered ∙ same) c.certify_accepted.ensures.comes
 
-pub returns-in_err-accepted : goal.returns-in_err-accepted
-returns-in_err-accepted g c =
-    let b = three c.args.ranks.now c.args.instants.now c.args.latenesses.now in
+pub returns-in_err-accepted-clause-comes : goal.returns-in_err-accepted-clause-comes
+returns-in_err-accepted-clause-comes g c =
+    let b = held c.args.buffers.now in
     let o = reading g.I.Item (room c.new-sheet.result) c.args.bytes.now in
     let fault = c.in_err-accepted.field-0.0 in
     let same = ap (λ m. examining g.I.Item b (reading g.I.Item (min (length m) 1024) c.args.bytes.now)) c.new-sheet.ensures.memory in

@@ -1,7 +1,8 @@
-use Rattle.std.proofs.Common.{◌≡◌, IfOk, ◌∙◌, arith}
+use Rattle.std.proofs.Common.{◌≡◌, length, IfOk, ap, ◌∙◌, arith}
 use Rattle.std.proofs.lemmas.Result.{IfOk-weaker}
 use Rattle.sheet.specs.Sheets.{entered}
-use Rattle.docket.specs.InStep.{three}
+use Rattle.calls.specs.Rules.{Buffers}
+use Rattle.docket.specs.Lent.{held}
 use Rattle.report.specs.Reports.{verdict_in, verdict_of_order}
 use Rattle.report.proofs.Verdicts.{order_said, granted_exactly}
 use Rattle.report.proofs.verdict.verdict.Goals as goal
@@ -10,16 +11,16 @@ pub returns : goal.returns
 returns g c =
     let e = c.certify_order-answer.ensures in
     let long = c.in_ok-own.ensures in
-    let said : IfOk c.answered.result (λ r. verdict_in r ≡ verdict_of_order g.I.Item g.H.Holder.seat (entered c.args.sheet.now) c.args.k c.args.order.now) =
+    let said : IfOk c.answered.result (λ r. verdict_in r ≡ verdict_of_order g.I.Item g.H.Holder.seat (entered c.args.sheet.now) c.args.proposal.now.k c.args.proposal.now.order.now) =
     IfOk-weaker c.answered.result _ _
     (λ r h.
-    h ∙ order_said g.I.Item g.H.Holder.seat (entered c.args.sheet.now) c.args.k c.args.order.now
-    (three c.as_mut_slice-ranks.result.now c.as_mut_slice-instants.result.now c.as_mut_slice-latenesses.result.now) (omega (arith, long.ranks)) (omega (arith, long.instants))
-    (omega (arith, long.latenesses)) c.certify_order-answer.result
-    (three c.certify_order-answer.new.ranks c.certify_order-answer.new.instants c.certify_order-answer.new.latenesses) e.answer e.written)
+    h ∙ order_said g.I.Item g.H.Holder.seat (entered c.args.sheet.now) c.args.proposal.now.k c.args.proposal.now.order.now
+    (held c.lend-buffers.result) (omega (arith, long.ranks, ap (λ (z : Buffers). length z.ranks) c.lend-buffers.ensures)) (omega (arith, long.instants, ap (λ (z : Buffers). length z.instants) c.lend-buffers.ensures))
+    (omega (arith, long.latenesses, ap (λ (z : Buffers). length z.latenesses) c.lend-buffers.ensures)) c.certify_order-answer.result
+    (held c.certify_order-answer.new.buffers) e.answer e.written)
     c.answered.ensures in
     record {
       said = said;
       granted_exactly_when_true_order =
-          IfOk-weaker c.answered.result _ _ (λ r h. granted_exactly g.I.Item g.H.Holder.seat (entered c.args.sheet.now) c.args.k c.args.order.now (verdict_in r) h) said;
+          IfOk-weaker c.answered.result _ _ (λ r h. granted_exactly g.I.Item g.H.Holder.seat (entered c.args.sheet.now) c.args.proposal.now.k c.args.proposal.now.order.now (verdict_in r) h) said;
     }
