@@ -7,10 +7,10 @@ use Rattle.giving.proofs.Places.{stands_same, place_reverse, without_reverse}
 use Rattle.holder.specs.declared.row.Row.{Row}
 use Rattle.holder.specs.Answers.{Sound}
 use Rattle.holder.specs.Ends.{EndLaws}
-use Rattle.holder.specs.Kinds.{queue_seat, stack_seat}
+use Rattle.holder.specs.Kinds.{queue_given, queue_seat, stack_given, stack_seat}
 use Rattle.holder.specs.Rows.{row_list}
 
-pub front_laws : EndLaws (λ L. L) queue_seat (λ n i. i)
+pub front_laws : EndLaws queue_given queue_seat (λ n i. i)
 front_laws = record {
   seated = λ L c. omega arith;
   as_long = λ L. refl;
@@ -22,7 +22,7 @@ front_laws = record {
   placed = λ L i h. (h, refl);
 }
 
-pub back_laws : EndLaws reverse stack_seat (λ n i. n - 1 - i)
+pub back_laws : EndLaws stack_given stack_seat (λ n i. n - 1 - i)
 back_laws = record {
   seated = λ L c. omega arith;
   as_long = λ L. length-reverse L;

@@ -1,5 +1,5 @@
 // The queue: what came first is given first.
-ghost use Rattle.holder.specs.Kinds.{queue_seat};
+ghost use Rattle.holder.specs.Kinds.{queue_given, queue_seat};
 ghost use Rattle.holder.specs.Given.{front_laws};
 
 use crate::line::{End, Line};
@@ -8,7 +8,7 @@ use crate::line::{End, Line};
 pub struct Front;
 
 impl End for Front {
-    ghost given = { λ L. L };
+    ghost given = { queue_given };
 
     ghost seat = { queue_seat };
 

@@ -1,6 +1,6 @@
 // The stack: what came last is given first.
-ghost use Rattle.std.specs.Prelude.{reverse, ◌-◌};
-ghost use Rattle.holder.specs.Kinds.{stack_seat};
+ghost use Rattle.std.specs.Prelude.{◌-◌};
+ghost use Rattle.holder.specs.Kinds.{stack_given, stack_seat};
 ghost use Rattle.holder.specs.Given.{back_laws};
 
 use crate::line::{End, Line};
@@ -9,7 +9,7 @@ use crate::line::{End, Line};
 pub struct Back;
 
 impl End for Back {
-    ghost given = { reverse };
+    ghost given = { stack_given };
 
     ghost seat = { stack_seat };
 
