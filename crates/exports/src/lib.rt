@@ -10,13 +10,15 @@ ghost use Rattle.exports.specs.Plain.{number_of_layer, plain, laid};
 
 use calls::certificate::Certificate;
 use comparison::case::answer_case;
+use docket::buffers::Buffers;
 use examination::examining::{ExamineFault, certify_trace};
 use refusal::Layer;
 use report::report::report_trace;
 use std::alloc::Global;
 
 // What came of an examination, as plain numbers.
-#[derive(Drop)]
+// Kept (rule of the project): callers in C read numbers, so an outcome, a layer and a refusal are numbers here.
+#[derive(Clone, Copy, Default)]
 #[repr(C)]
 pub struct PlainOutcome {
     // 0 where a certificate is granted, 1 where the trace or its order is refused, 2 where there was not enough memory
@@ -46,38 +48,32 @@ fn layer_number(layer: Layer) -> u8
     }
 }
 
-// What came of an examination, as plain numbers; those that do not apply are 0.
-fn plain_outcome(answer: Result<Certificate, ExamineFault>) -> PlainOutcome
-    ensures { result ≡ plain answer }
-{
-    let mut outcome = PlainOutcome {
-        status: 0,
-        layer: 0,
-        number: 0,
-        place: 0,
-        detail: 0,
-        total: 0,
-        largest: 0,
-        first: 0,
-    };
-    match answer {
-        Ok(certificate) => {
-            outcome.total = certificate.total;
-            outcome.largest = certificate.largest;
-            outcome.first = certificate.first;
-        }
-        Err(ExamineFault::Refused(refusal)) => {
-            outcome.status = 1;
-            outcome.layer = layer_number(refusal.layer);
-            outcome.number = refusal.number;
-            outcome.place = refusal.place;
-            outcome.detail = refusal.detail;
-        }
-        Err(ExamineFault::NoMemory) => {
-            outcome.status = 2;
+// Those numbers that do not apply are 0.
+impl From<Result<Certificate, ExamineFault>> for PlainOutcome {
+    ghost from_gives = { λ answer outcome. outcome ≡ plain answer };
+
+    fn from(answer: Result<Certificate, ExamineFault>) -> PlainOutcome {
+        match answer {
+            Ok(certificate) => PlainOutcome {
+                total: certificate.total,
+                largest: certificate.largest,
+                first: certificate.first,
+                ..PlainOutcome::default()
+            },
+            Err(ExamineFault::Refused(refusal)) => PlainOutcome {
+                status: 1,
+                layer: layer_number(refusal.layer),
+                number: refusal.number,
+                place: refusal.place,
+                detail: refusal.detail,
+                ..PlainOutcome::default()
+            },
+            Err(ExamineFault::NoMemory) => PlainOutcome {
+                status: 2,
+                ..PlainOutcome::default()
+            },
         }
     }
-    outcome
 }
 
 // Lays a text over the front of the memory where it fits, and answers how long it is.
@@ -86,7 +82,7 @@ fn lay(text: &[u8], memory: &mut [u8]) -> usize
     ensures memory { memory.new ≡ laid text.now memory.old }
 {
     if text.len() <= memory.len() {
-        memory[0..text.len()].copy_from_slice(text);
+        memory[..text.len()].copy_from_slice(text);
     }
     text.len()
 }
@@ -104,7 +100,12 @@ pub extern "C" fn examiner_certify(
 )
     ensures { (r : Result Certificate ExamineFault) × Comes (examination_of bytes.now (three ranks.old instants.old latenesses.old)) (three ranks.old instants.old latenesses.old) r (three ranks.new instants.new latenesses.new) × (outcome.new ≡ plain r) }
 {
-    *outcome = plain_outcome(certify_trace(heap, bytes, ranks, instants, latenesses));
+    let mut buffers = Buffers {
+        ranks,
+        instants,
+        latenesses,
+    };
+    *outcome = PlainOutcome::from(certify_trace(heap, bytes, &mut buffers));
 }
 
 // Lays the text that is printed of a trace over the front of the memory, where it fits, and answers how long it is; 0 where
