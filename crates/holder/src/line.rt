@@ -1,5 +1,5 @@
 // A row of codes that is given from one of its ends: what the queue and the stack share.
-ghost use Rattle.std.specs.Prelude.{◌≡◌, ℕ, ◌<◌, List, []};
+ghost use Rattle.std.specs.Prelude.{◌≡◌, ℕ, List, []};
 ghost use Rattle.holder.specs.Ends.{EndLaws};
 ghost use Rattle.holder.specs.Rows.{row_list};
 ghost use Rattle.holder.specs.Given.{line_sound};
@@ -22,7 +22,6 @@ pub trait End {
 
     // The place in a row of n codes of what stands at place i of its giving list, and the other way round.
     fn place(n: u16, i: u16) -> u16
-        requires { i < n }
         ensures { result ≡ across n i };
 
     ghost laws: { EndLaws given seat across };

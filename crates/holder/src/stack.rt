@@ -18,7 +18,7 @@ impl End for Back {
     ghost laws = { back_laws };
 
     fn place(n: u16, i: u16) -> u16 {
-        n - 1 - i
+        n.saturating_sub(1).saturating_sub(i)
     }
 }
 
