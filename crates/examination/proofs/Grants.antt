@@ -1,5 +1,5 @@
 -- A certificate is granted exactly when the order is true.
-use Rattle.std.proofs.Common.{◌≡◌, ℕ, true, false, List, [], ◌∷◌, length, is_ok, Some, None, Ok, Err, Option, Result, sym, refl, ap, ◌∙◌, subst, arith}
+use Rattle.std.proofs.Common.{◌≡◌, ℕ, true, false, List, [], ◌∷◌, length, is_ok, Some, None, Ok, Err, Option, Result, sym, refl, ap, ◌∙◌, subst}
 use Rattle.order.specs.declared.operation.Paired.{Paired}
 use Rattle.order.specs.Steps.{SeatRule}
 use Rattle.order.specs.Orders.{TrueOrder}
@@ -15,9 +15,9 @@ use Rattle.examination.specs.Orders.{unless_stopped, refused_as, order_answer}
 use Rattle.examination.proofs.Runs.{ran_whole}
 
 ok_unstopped : (s : Option DocketFault) (a : Result Certificate DocketFault) → is_ok (refused_as (unless_stopped s a)) ≡ true → (s ≡ None) × (is_ok a ≡ true)
-ok_unstopped (Some e) a h = let z : ◌≡◌ {A = ℕ} 0 1 = cc in absurd (omega arith)
+ok_unstopped (Some e) a h = absurd (cc)
 ok_unstopped None (Ok c) h = (refl, refl)
-ok_unstopped None (Err e) h = let z : ◌≡◌ {A = ℕ} 0 1 = cc in absurd (omega arith)
+ok_unstopped None (Err e) h = absurd (cc)
 
 module _ (seat : SeatRule) (ops : List Paired) (k : ℕ) (p : List ℕ) (b : Buffers) (long : is_too_short (length ops) b ≡ false) where
   granted_is_true : is_ok (order_answer seat ops k p b) ≡ true → TrueOrder seat ops k p

@@ -1,5 +1,5 @@
 -- A run of a whole order, and what is certified after it.
-use Rattle.std.proofs.Common.{◌≡◌, ℕ, List, [], None, Result, sym, ap, ◌∙◌, ⊎_elim, arith}
+use Rattle.std.proofs.Common.{◌≡◌, ℕ, List, [], None, Result, sym, ap, ◌∙◌, ⊎_elim}
 use Rattle.order.specs.declared.operation.Paired.{Paired}
 use Rattle.order.specs.Steps.{SeatRule}
 use Rattle.calls.specs.declared.certificate.Certificate.{Certificate}
@@ -14,7 +14,7 @@ use Rattle.examination.specs.Orders.{unless_stopped, order_outcome, order_writte
 -- a run that nothing stopped placed the whole order
 ran : (seat : SeatRule) (ops : List Paired) (k : ℕ) (xs : List ℕ) (R : Run) → Outcome seat ops k [] 0 xs R → R.stopped ≡ None → R.steps ≡ xs
 ran seat ops k xs R o e =
-    ⊎_elim (λ h. ap (λ (z : Run). z.steps) h.1) (λ h. let z : ◌≡◌ {A = ℕ} 0 1 = let q = h.7 in cc in absurd (omega arith)) o
+    ⊎_elim (λ h. ap (λ (z : Run). z.steps) h.1) (λ h. absurd (let q = h.7 in cc)) o
 
 pub ran_whole : (seat : SeatRule) (ops : List Paired) (k : ℕ) (xs : List ℕ) → (run_of seat ops k [] 0 xs).stopped ≡ None → (run_of seat ops k [] 0 xs).steps ≡ xs
 ran_whole seat ops k xs e = ran seat ops k xs (run_of seat ops k [] 0 xs) (outcome seat ops k xs [] 0) e

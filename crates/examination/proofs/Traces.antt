@@ -1,5 +1,5 @@
 -- What the examination of a trace comes to, by the outcome of reading it.
-use Rattle.std.proofs.Common.{◌≡◌, ℕ, List, Ok, Err, refl, ap, ◌∙◌, arith}
+use Rattle.std.proofs.Common.{◌≡◌, List, Ok, Err, refl, ap, ◌∙◌}
 use Rattle.item.specs.declared.item.Item.{Ghosts}
 use Rattle.sheet.specs.declared.operation.Operation.{Operation}
 use Rattle.trace.specs.declared.fault.ReadFault.{ReadFault}
@@ -24,8 +24,8 @@ module _ {I : Type 0} (t : Ghosts I) (b : Buffers) where
   }
 
   pub accepted_examined : (o : Outcome I) (old os : List (Operation I)) (a : Accepted) → Ok (said a) ≡ answered o → os ≡ held old o → order_examined os (said a) ≡ examining t b o
-  accepted_examined (unread f) old os a e h = let z : ◌≡◌ {A = ℕ} 0 1 = cc in absurd (omega arith)
-  accepted_examined (refused fs i f) old os a e h = let z : ◌≡◌ {A = ℕ} 0 1 = cc in absurd (omega arith)
+  accepted_examined (unread f) old os a e h = absurd (cc)
+  accepted_examined (refused fs i f) old os a e h = absurd (cc)
   accepted_examined (accepted c) old os a e h =
       let q : said a ≡ saying_of c = cc in
       ap (λ z. order_examined z (said a)) h ∙ ap (λ z. order_examined c.ops z) q
@@ -33,4 +33,4 @@ module _ {I : Type 0} (t : Ghosts I) (b : Buffers) where
   pub refused_examined : (o : Outcome I) (e : ReadFault) → Err e ≡ answered o → ((examining t b o).answer ≡ Err (read_refusal e)) × (b ≡ (examining t b o).buffers)
   refused_examined (unread f) e p = let q : Frame f ≡ e = cc in (ap (λ z. Err (read_refusal z)) q, refl)
   refused_examined (refused os i f) e p = let q : Entry (record { place = i; fault = f }) ≡ e = cc in (ap (λ z. Err (read_refusal z)) q, refl)
-  refused_examined (accepted c) e p = let z : ◌≡◌ {A = ℕ} 0 1 = cc in absurd (omega arith)
+  refused_examined (accepted c) e p = absurd (cc)

@@ -1,7 +1,7 @@
 // Reads a trace on standard input, and prints the certificate of its order or why it is refused.
 #![tactic(auto)]
 
-use anyhow::anyhow;
+use anyhow::{Context, anyhow};
 use report::report::report_trace;
 use std::io::{Read, Write};
 use std::process::ExitCode;
@@ -12,19 +12,16 @@ const LIMIT: u64 = 26_633;
 // Whether a certificate is granted.
 fn examine(rt: &HostRuntime) -> anyhow::Result<bool> {
     let mut bytes = Vec::new(rt.alloc());
-    if rt.stdin().take(LIMIT).read_to_end(&mut bytes).is_err() {
-        return Err(anyhow!(
-            "standard input cannot be read: give the trace there, as in ./examine < FILE"
-        ));
-    }
-    let report = match report_trace(rt.alloc(), bytes.as_slice()) {
-        Ok(report) => report,
-        Err(_) => return Err(anyhow!("there is not enough memory to examine the trace")),
-    };
+    rt.stdin().take(LIMIT).read_to_end(&mut bytes).context(
+        "standard input cannot be read: give the trace there, as in ./examine < FILE",
+    )?;
+    let report = report_trace(rt.alloc(), bytes.as_slice()).map_err(|_| anyhow!(
+        "there is not enough memory to examine the trace"
+    ))?;
     let mut out = rt.stdout();
-    if out.write_all(report.text.as_bytes()).is_err() || out.flush().is_err() {
-        return Err(anyhow!("standard output cannot be written: the report is not complete"));
-    }
+    out.write_all(report.text.as_bytes())
+        .and_then(|_| out.flush())
+        .context("standard output cannot be written: the report is not complete")?;
     Ok(report.granted)
 }
 

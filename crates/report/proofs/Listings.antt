@@ -5,33 +5,37 @@ use Rattle.sheet.specs.declared.operation.Method.{Method}
 use Rattle.sheet.specs.declared.operation.Method.TheVariants.{Add, Take, FoundEmpty}
 use Rattle.report.specs.Lines.{up_to, late_of_method}
 
-module _ (f : ℕ → List ℕ) (n : ℕ) (text : List ℕ) (so_far : text ≡ up_to n f) where
+module _ (f : ℕ → List ℕ) (n n' : ℕ) (next : n' ≡ n + 1) (text : List ℕ) (so_far : text ≡ up_to n f) where
   -- the next line
-  pub one_more : (text' line : List ℕ) → f n ≡ line → text' ≡ text ++ line → text' ≡ up_to (n + 1) f
+  pub one_more : (text' line : List ℕ) → f n ≡ line → text' ≡ text ++ line → text' ≡ up_to n' f
   one_more text' line e p =
-      p ∙ ap (λ z. z ++ line) so_far ∙ ap (λ z. up_to n f ++ z) (sym e) ∙ ap (λ k. up_to k f) (sym (add-one n))
+      p ∙ ap (λ z. z ++ line) so_far ∙ ap (λ z. up_to n f ++ z) (sym e) ∙ ap (λ k. up_to k f) (sym (next ∙ add-one n))
 
   -- where nothing is said of the next
-  pub none_more : f n ≡ [] → text ≡ up_to (n + 1) f
+  pub none_more : f n ≡ [] → text ≡ up_to n' f
   none_more e = one_more text [] e (sym (append-nil text))
 
--- what an iterator takes next from the rest of a list that it has gone over up to n
-pub record Taken {A : Type 0} (xs : List A) (n : ℕ) (y : A) (rest : List A) : Type 0 where
+-- an iterator over a list that has given n of its items gives one more, and has the rest left
+pub record Taken {A : Type 0} (xs : List A) (n n' : ℕ) (y : A) (rest : List A) : Type 0 where
   pub below : n < length xs
   pub at : (d : A) → get_or xs n d ≡ y
   pub got : slice_get xs n ≡ Some y
-  pub left : rest ≡ drop (n + 1) xs
+  pub left : rest ≡ drop n' xs
 
-pub taken : {A : Type 0} (xs rest : List A) (n : ℕ) (y : A) → drop n xs ≡ y ∷ rest → Taken xs n y rest
-taken [] rest zero y e = absurd (cc)
-taken [] rest (suc n) y e = absurd (cc)
-taken (x ∷ xs) rest zero y e = record { below = omega arith; at = λ d. cc; got = ap Some (cc); left = cc }
-taken (x ∷ xs) rest (suc n) y e =
-    let t = taken xs rest n y e in
-    let m : suc (n + 1) ≡ suc n + 1 = omega arith in
-    record { below = omega (arith, t.below); at = t.at; got = t.got; left = t.left ∙ ap (λ k. drop k (x ∷ xs)) m }
+first_of : {A : Type 0} (xs rest : List A) (n : ℕ) (y : A) → drop n xs ≡ y ∷ rest → Taken xs n (suc n) y rest
+first_of [] rest zero y e = absurd (cc)
+first_of [] rest (suc n) y e = absurd (cc)
+first_of (x ∷ xs) rest zero y e = record { below = omega arith; at = λ d. cc; got = ap Some (cc); left = cc }
+first_of (x ∷ xs) rest (suc n) y e =
+    let t = first_of xs rest n y e in
+    record { below = omega (arith, t.below); at = t.at; got = t.got; left = t.left }
 
--- and where nothing is left
+pub taken : {A : Type 0} (xs before rest : List A) (n n' : ℕ) (y : A) → before ≡ drop n xs → before ≡ y ∷ rest → n' ≡ n + 1 → Taken xs n n' y rest
+taken xs before rest n n' y b e next =
+    let t = first_of xs rest n y (sym b ∙ e) in
+    record { below = t.below; at = t.at; got = t.got; left = t.left ∙ ap (λ k. drop k xs) (sym (next ∙ add-one n)) }
+
+-- and where it has none left
 pub at_end : {A : Type 0} (xs rest : List A) (n : ℕ) → rest ≡ drop n xs → length rest ≡ 0 → length xs ≤ n
 at_end xs rest n e z = omega (arith, ap length e, length-drop n xs)
 

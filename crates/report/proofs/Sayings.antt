@@ -35,8 +35,7 @@ pub never_differs : (out bs mem : List ℕ) (r : Bool) → r ≡ not (pointwise 
 never_differs out bs mem r n o l t =
     let e : out ≡ bs = o ∙ ap (λ z. bs ++ z) (drop_all (length bs) mem (omega arith)) ∙ append-nil bs in
     let y = (slice_eq-Decides Decides-eqb out bs (pointwise eqb out bs) refl).1 e in
-    let z : ◌≡◌ {A = ℕ} 0 1 = let p = ap not y in cc in
-    omega arith
+    let p = ap not y in cc
 
 -- an outcome that is said to be accepted
 module _ {I : Type 0} (t : Ghosts I) where
@@ -48,16 +47,16 @@ module _ {I : Type 0} (t : Ghosts I) where
 
   pub examined_said : (o : Outcome I) (old os : List (Operation I)) (size : ℕ) (a : Accepted) → Ok (said a) ≡ copying size o → os ≡ held old o →
       verdict_of_order t (seat_of (kind_number a.kind)) os a.k (order_of a.order) ≡ saying t o
-  examined_said (unread f) old os size a e h = let z : ◌≡◌ {A = ℕ} 0 1 = cc in absurd (omega arith)
-  examined_said (refused fs i f) old os size a e h = let z : ◌≡◌ {A = ℕ} 0 1 = cc in absurd (omega arith)
+  examined_said (unread f) old os size a e h = absurd (cc)
+  examined_said (refused fs i f) old os size a e h = absurd (cc)
   examined_said (accepted c) old os size a e h =
       let p = passed (ltb size (8 + 26 * length c.ops)) (Writing Memory) (Ok (saying_of c)) (said a) (sym e) in
       let q : saying_of c ≡ said a = let f = p.1 in cc in
       accepted_said a c os q h
 
   not_refused : (b : Bool) (s : Said) (e : ReadFault) → Err (Reading e) ≡ cond b (Err (Writing Memory)) (Ok s) → ⊥
-  not_refused true s e p = let z : ◌≡◌ {A = ℕ} 0 1 = cc in omega arith
-  not_refused false s e p = let z : ◌≡◌ {A = ℕ} 0 1 = cc in omega arith
+  not_refused true s e p = cc
+  not_refused false s e p = cc
 
   refused_said : (o : Outcome I) (size : ℕ) (e : ReadFault) → Err (Reading e) ≡ copying size o → refusing (read_refusal e) ≡ saying t o
   refused_said (unread f) size e p = let q : e ≡ Frame f = cc in ap (λ z. refusing (read_refusal z)) q
@@ -76,5 +75,5 @@ module _ {I : Type 0} (t : Ghosts I) where
       q ∙ refused_said o size e c
   fault_said o size (Reading e) (Err f) c never h = h
   fault_said o size (Writing w) r c never h = absurd (never w c)
-  fault_said o size NoMemory (Ok p) c never h = let z : ◌≡◌ {A = ℕ} 0 1 = let g = h in cc in absurd (omega arith)
+  fault_said o size NoMemory (Ok p) c never h = absurd (let g = h in cc)
   fault_said o size NoMemory (Err f) c never h = h

@@ -39,12 +39,12 @@ module _ {I : Type 0} (t : Ghosts I) where
 
     granted_to_true : (o : Outcome I) → reading t 1024 bs ≡ o → (v : Verdict) → v ≡ saying t o → (v.granted ≡ true → TrueTrace t bs) × (TrueTrace t bs → v.granted ≡ true)
     granted_to_true (unread e) r v s = (
-      λ g. let z : ◌≡◌ {A = ℕ} 0 1 = let q = ap (λ (w : Verdict). w.granted) s in cc in absurd (omega arith),
-      λ h. let z : ◌≡◌ {A = ℕ} 0 1 = let q = only (unread e) r h in cc in absurd (omega arith),
+      λ g. absurd (let q = ap (λ (w : Verdict). w.granted) s in cc),
+      λ h. absurd (let q = only (unread e) r h in cc),
     )
     granted_to_true (refused os i e) r v s = (
-      λ g. let z : ◌≡◌ {A = ℕ} 0 1 = let q = ap (λ (w : Verdict). w.granted) s in cc in absurd (omega arith),
-      λ h. let z : ◌≡◌ {A = ℕ} 0 1 = let q = only (refused os i e) r h in cc in absurd (omega arith),
+      λ g. absurd (let q = ap (λ (w : Verdict). w.granted) s in cc),
+      λ h. absurd (let q = only (refused os i e) r h in cc),
     )
     granted_to_true (accepted c) r v s =
         let right = reading_back t law 1024 bs c bytes r in

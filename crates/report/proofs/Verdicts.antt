@@ -64,7 +64,7 @@ module _ {I : Type 0} (t : Ghosts I) (seat : SeatRule) (os : List (Operation I))
       a ≡ unless_missing p m (cond short (Err (BufferTooShort (length ops))) (Ok (certificate_of seat ops p))) →
       answering os k p (refused_as a) (written seat ops p b a) ≡ whole t seat os k p m
   whole_said (Some x) short a s e = ap (λ z. answering os k p (refused_as z) (written seat ops p b z)) e
-  whole_said None true a s e = let z : ◌≡◌ {A = ℕ} 0 1 = cc in absurd (omega arith)
+  whole_said None true a s e = absurd (cc)
   whole_said None false a s e = ap (λ z. answering os k p (refused_as z) (written seat ops p b z)) e ∙ certificate_said
 
   stopping_said : (s : Option DocketFault) → is_too_short (length ops) b ≡ false →

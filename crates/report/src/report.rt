@@ -102,6 +102,7 @@ pub fn report_trace(heap: Global, bytes: &[u8]) -> Result<Report, ReportFault>
     ensures granted_exactly_when_true_order { IfOk result (λ p. (p.granted ≡ true → TrueTrace ticket_items bytes.now ⊎ TrueTrace stamp_items bytes.now) × (TrueTrace ticket_items bytes.now ⊎ TrueTrace stamp_items bytes.now → p.granted ≡ true)) }
     ensures said { MatchResult result (λ p. verdict_in p ≡ report_on bytes.now) (λ e. e ≡ NoMemory) }
 {
+    // Kept (no plainer): an item type is chosen by a type argument, and a trait of all that is done by item type says no less.
     if has_stamps(bytes) {
         report_of::<Stamp>(heap, bytes)
     } else {

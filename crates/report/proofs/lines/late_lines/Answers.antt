@@ -1,4 +1,4 @@
-use Rattle.std.proofs.Common.{◌≡◌, ◌≤◌, ◌++◌, length, drop, get_or, string_bytes, sym, ap, ◌∙◌, ⊎_elim, arith}
+use Rattle.std.proofs.Common.{◌≡◌, ◌++◌, ◌≤◌, length, get_or, string_bytes, ap, ◌∙◌, ⊎_elim, arith}
 use Rattle.std.specs.Iterator.Adapters.{enumerate_count}
 use Rattle.sheet.specs.Sheets.{entered}
 use Rattle.report.specs.Lines.{up_to, line_of_late, late_of, late_of_method, late_at}
@@ -12,16 +12,15 @@ loop-number-preserved-in-Continue-1 g c =
     let i = c.loop-number.invariant in
     let s = c.in-Some.ensures.steps in
     let n = enumerate_count c.loop-number.number-iterator in
-    let o = taken os _ n c.in-Some.op.now (sym i.operations ∙ s.0.0) in
-    let t = taken lates _ n c.in-Some.late.now (sym i.latenesses ∙ s.0.1) in
+    let o = taken os _ _ n _ c.in-Some.op.now i.operations s.0.0 s.2 in
+    let t = taken lates _ _ n _ c.in-Some.late.now i.latenesses s.0.1 s.2 in
     record {
-      operations = o.left ∙ ap (λ m. drop m (entered c.args.sheet.now)) (sym s.2);
-      latenesses = t.left ∙ ap (λ m. drop m c.args.latenesses.now) (sym s.2);
+      operations = o.left;
+      latenesses = t.left;
       within = omega (arith, o.below, s.2);
-      said = one_more (late_at os lates) n (string_bytes c.loop-number.text) i.said (string_bytes c.write.new.self) (line_of_late n c.in-Some.late.now)
+      said = one_more (late_at os lates) n _ s.2 (string_bytes c.loop-number.text) i.said (string_bytes c.write.new.self) (line_of_late n c.in-Some.late.now)
           (ap (late_of n (get_or lates n 0)) o.got ∙ ap (λ m. late_of_method n m c.in-Some.op.now.method) (t.at 0) ∙ ap (late_of_method n c.in-Some.late.now) c.in-Add.is)
-          (c.in_ok-write.ensures.bytes ∙ ap (λ m. string_bytes c.loop-number.text ++ line_of_late m c.in-Some.late.now) s.1)
-          ∙ ap (λ m. up_to m (late_at (entered c.args.sheet.now) c.args.latenesses.now)) (sym s.2);
+          (c.in_ok-write.ensures.bytes ∙ ap (λ m. string_bytes c.loop-number.text ++ line_of_late m c.in-Some.late.now) s.1);
     }
 
 pub loop-number-preserved : goal.loop-number-preserved
@@ -31,15 +30,14 @@ loop-number-preserved g c =
     let i = c.loop-number.invariant in
     let s = c.in-Some.ensures.steps in
     let n = enumerate_count c.loop-number.number-iterator in
-    let o = taken os _ n c.in-Some.op.now (sym i.operations ∙ s.0.0) in
-    let t = taken lates _ n c.in-Some.late.now (sym i.latenesses ∙ s.0.1) in
+    let o = taken os _ _ n _ c.in-Some.op.now i.operations s.0.0 s.2 in
+    let t = taken lates _ _ n _ c.in-Some.late.now i.latenesses s.0.1 s.2 in
     record {
-      operations = o.left ∙ ap (λ m. drop m (entered c.args.sheet.now)) (sym s.2);
-      latenesses = t.left ∙ ap (λ m. drop m c.args.latenesses.now) (sym s.2);
+      operations = o.left;
+      latenesses = t.left;
       within = omega (arith, o.below, s.2);
-      said = none_more (late_at os lates) n (string_bytes c.loop-number.text) i.said
-          (ap (late_of n (get_or lates n 0)) o.got ∙ not_added n (get_or lates n 0) c.in-Some.op.now.method c.in_default.not-Add)
-          ∙ ap (λ m. up_to m (late_at (entered c.args.sheet.now) c.args.latenesses.now)) (sym s.2);
+      said = none_more (late_at os lates) n _ s.2 (string_bytes c.loop-number.text) i.said
+          (ap (late_of n (get_or lates n 0)) o.got ∙ not_added n (get_or lates n 0) c.in-Some.op.now.method c.in_default.not-Add);
     }
 
 pub returns : goal.returns
