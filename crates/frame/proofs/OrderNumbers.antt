@@ -1,6 +1,6 @@
 -- An order's bytes and its numbers determine one another.
-use Rattle.std.proofs.Common.{◌≡◌, ℕ, zero, suc, ◌+◌, ◌-◌, ◌*◌, ◌/◌, ◌≤◌, List, [], ◌∷◌, length, map, take, drop, w16, refl, ap, ◌∙◌, arith, length-drop, length-take, take_at, drop_at}
-use Rattle.std.proofs.lemmas.List.{take-append-drop, take_rest}
+use Rattle.std.proofs.Common.{◌≡◌, ℕ, zero, suc, ◌*◌, ◌≤◌, List, [], ◌∷◌, length, map, take, drop, w16, refl, arith, length-drop, length-take, take_at, drop_at}
+use Rattle.std.proofs.lemmas.List.{take-append-drop}
 use Rattle.std.specs.Int.{from_be_bytes}
 use Rattle.std.specs.Int.Digits.{number_from_digits}
 use Rattle.std.specs.List.{flat_map}
@@ -40,11 +40,3 @@ numbers_back (suc n) bs b l =
     let i = numbers_back n (drop 2 bs) (bytes_drop 2 bs b) (simp length-drop (omega arith)) in
     let t = take-append-drop 2 bs in
     (cc (h.0, i.0, t), (omega (arith, h.1), i.1))
-
--- the order is what follows the records
-pub order_after : (bs : List ℕ) (n : ℕ) → length bs ≡ 8 + 26 * n →
-    numbers_of (length (take (length bs - (8 + 24 * n)) (drop (8 + 24 * n) bs)) / 2) (take (length bs - (8 + 24 * n)) (drop (8 + 24 * n) bs)) ≡ numbers_of n (drop (8 + 24 * n) bs)
-order_after bs n l =
-    let e = take_rest bs (8 + 24 * n) in
-    let m : length (drop (8 + 24 * n) bs) / 2 ≡ n = simp length-drop (omega arith) in
-    ap (λ z. numbers_of (length z / 2) z) e ∙ ap (λ k. numbers_of k (drop (8 + 24 * n) bs)) m

@@ -29,7 +29,7 @@ pub fn read_header(bytes: &[u8], item_type: u8) -> Result<Header, FrameFault>
         return Err(FrameFault::Version);
     }
     let kind = Kind::try_from((word / 256 % 16) as u8)?;
-    if word / 16 % 16 != item_type as u64 {
+    if word / 16 % 16 != u64::from(item_type) {
         return Err(FrameFault::ItemType);
     }
     if word % 16 != 0 || spare != 0 {

@@ -1,7 +1,7 @@
 -- What an entered operation adds to a sheet.
-use Rattle.std.proofs.Common.{◌≡◌, ℕ, ◌+◌, ◌<◌, ◌≤◌, min, Bool, true, false, cond, ltb, leb, List, [], ◌∷◌, ◌++◌, length, take, drop, set, Some, None, Ok, Option, sym, refl, ap, ◌∙◌, subst, append_assoc, append-nil, add-one, arith, length-set, length-take-le, take-suc-set, drop-set-lt}
+use Rattle.std.proofs.Common.{◌≡◌, ℕ, ◌+◌, ◌<◌, ◌≤◌, min, Bool, true, false, cond, ltb, leb, List, [], ◌∷◌, ◌++◌, length, take, drop, set, Some, None, Ok, Option, sym, refl, ap, ◌∙◌, subst, append_assoc, append-nil, arith, length-set, length-take-le, drop-set-lt}
 use mathlib.Core.Logic.{∥∥₁_map}
-use Rattle.std.proofs.lemmas.List.{take-append-drop}
+use Rattle.std.proofs.lemmas.List.{take-append-drop, take_more_set}
 use Rattle.sheet.specs.Sheets.{filled}
 use Rattle.std.proofs.lemmas.Bool.Decides.{nat_tests}
 use Rattle.refusal.proofs.Checks.{passed}
@@ -70,9 +70,6 @@ module _ {I : Type 0} where
   consistent_push os (o ∷ ops) op s t f =
       (s.0, s.1, consistent_push (os ++ o ∷ []) ops op s.2 t (subst (New op.method) (sym (append_assoc os (o ∷ []) ops)) f))
 
-  taken : (xs : List (Operation I)) (k : ℕ) (x : Operation I) → k < length xs → take (k + 1) (set xs k x) ≡ take k xs ++ x ∷ []
-  taken xs k x h = rw add-one (take-suc-set xs k x h)
-
   written : (xs : List (Operation I)) (k : ℕ) (x : Operation I) → k < length xs → set xs k x ≡ filled (take (k + 1) (set xs k x)) xs
   written xs k x h =
       let n = length-set xs k x in
@@ -99,7 +96,7 @@ module _ {I : Type 0} where
       record {
         within = simp length-set (omega arith);
         bounded = omega arith;
-        consistent = ∥∥₁_map s (λ t. subst (Consistent []) (sym (taken mem count op f)) (consistent_push [] (take count mem) op t r.timed r.fresh));
+        consistent = ∥∥₁_map s (λ t. subst (Consistent []) (sym (take_more_set mem count op f)) (consistent_push [] (take count mem) op t r.timed r.fresh));
         memory = written mem count op f;
         room = ap (λ n. min n 1024) (length-set mem count op);
       }

@@ -4,15 +4,21 @@ use Rattle.std.proofs.lemmas.Bool.Decides.{nat_tests}
 use Rattle.item.specs.declared.item.Item.{Ghosts}
 use Rattle.item.specs.Items.{Lawful}
 use Rattle.record.specs.Bytes.{Bytes}
+use Rattle.trace.specs.declared.fault.ReadFault.{ReadFault}
 use Rattle.trace.specs.declared.fault.WriteFault.{WriteFault}
 use Rattle.trace.specs.declared.fault.WriteFault.TheVariants.{Memory}
-use Rattle.trace.specs.declared.fault.CopyFault.TheVariants.{Writing}
+use Rattle.trace.specs.declared.fault.CopyFault.TheVariants.{Reading, Writing}
 use Rattle.trace.specs.Contents.{Contents}
 use Rattle.trace.specs.Reading.{Outcome, reading}
 use Rattle.trace.specs.Reading.Outcome.{unread, refused, accepted}
-use Rattle.trace.specs.Answers.{saying_of}
+use Rattle.trace.specs.Answers.{answered, saying_of}
 use Rattle.trace.specs.Copying.{copying}
 use Rattle.trace.proofs.Readings.{length_encode, reading_back}
+
+pub not_read : {I : Type 0} (bytes : ℕ) (o : Outcome I) (e : ReadFault) → Err e ≡ answered o → Err (Reading e) ≡ copying bytes o
+not_read bytes (unread f) e p = let q : e ≡ _ = cc in ap (λ z. Err (Reading z)) q
+not_read bytes (refused os i f) e p = let q : e ≡ _ = cc in ap (λ z. Err (Reading z)) q
+not_read bytes (accepted c) e p = absurd cc
 
 module _ {I : Type 0} (t : Ghosts I) (law : Lawful t) (room : ℕ) (bs : List ℕ) (b : Bytes bs) where
   long_enough : (c : Contents I) → reading t room bs ≡ accepted c → ltb (length bs) (8 + 26 * length c.ops) ≡ false
@@ -27,5 +33,4 @@ module _ {I : Type 0} (t : Ghosts I) (law : Lawful t) (room : ℕ) (bs : List �
   always_written (refused os i e) p f q = cc
   always_written (accepted c) p f q =
       let w = q ∙ ap (λ x. cond x (Err (Writing Memory)) (Ok (saying_of c))) (long_enough c p) in
-      let z : ◌≡◌ {A = ℕ} 0 1 = cc in
-      omega arith
+      cc

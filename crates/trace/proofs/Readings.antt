@@ -11,7 +11,6 @@ use Rattle.record.proofs.Digits.{length_big, bytes_drop}
 use Rattle.record.proofs.Codec.{length_record}
 use Rattle.frame.specs.declared.fault.FrameFault.{FrameFault}
 use Rattle.frame.specs.declared.header.Header.{Header}
-use Rattle.frame.specs.Layout.{record_count}
 use Rattle.frame.specs.Headers.{frame_of, bytes_of_header}
 use Rattle.frame.specs.Kinds.{kind_number}
 use Rattle.frame.specs.Orders.{numbers_of}
@@ -112,20 +111,6 @@ module _ {I : Type 0} (t : Ghosts I) (law : Lawful t) (room : ℕ) (bs : List �
       ap (numbers_of n) d ∙ ap (λ m. numbers_of m ords) (sym eq) ∙ numbers_there c.order v.small in
       ap (framed t room bs) f ∙ ap (ended (record { kind = kind.0; count = n; k = c.k }) bs) r
       ∙ ap (λ q. accepted (contents (kind_number kind.0) c.k c.ops q)) o ∙ ap (λ m. accepted (contents m c.k c.ops c.order)) kind.1
-
--- the records of a trace whose length is right
-pub count_right : (bs : List ℕ) (n : ℕ) → length bs ≡ 8 + 26 * n → record_count bs ≡ n
-count_right bs n l = omega arith
-
--- what the calls of a reading come to
-pub accepting : {I : Type 0} (t : Ghosts I) (code room room' : ℕ) (bs bs' : List ℕ) (h : Header) (r : Run I) →
-    code ≡ t.TYPE → Ok h ≡ frame_of code bs → room' ≡ room → bs' ≡ bs → length bs ≡ 8 + 26 * h.count → run t room' bs' (record_count bs') ≡ r →
-    reading t room bs ≡ ended h bs r
-accepting t code room room' bs bs' h r c f m b l e =
-    let n : record_count bs' ≡ h.count = ap record_count b ∙ count_right bs h.count l in
-    let q : run t room bs h.count ≡ r =
-    ap (λ m. run t m bs h.count) (sym m) ∙ ap (λ z. run t room' z h.count) (sym b) ∙ ap (run t room' bs') (sym n) ∙ e in
-    ap (framed t room bs) (ap (λ c. frame_of c bs) (sym c) ∙ sym f) ∙ ap (ended h bs) q
 
 -- an answer that accepts says the contents
 pub accepted_of : {I : Type 0} (r : Result Accepted ReadFault) (o : Outcome I) (old os : List (Operation I)) → shown r ≡ answered o → os ≡ held old o →

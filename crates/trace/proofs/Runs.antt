@@ -1,5 +1,5 @@
 -- Taking the records of a trace in turn.
-use Rattle.std.proofs.Common.{◌≡◌, ℕ, zero, suc, ◌+◌, ◌-◌, ◌*◌, ◌<◌, ◌≤◌, List, [], ◌∷◌, ◌++◌, length, take, drop, Ok, Err, Result, sym, refl, ap, ◌∙◌, subst, append_assoc, append-nil, add-zero, suc-add, mul-zero, zero-add, mul-suc, add-one, arith, length-append, length-drop, length-take, take_at, take-add, drop_at}
+use Rattle.std.proofs.Common.{◌≡◌, ℕ, zero, suc, ◌+◌, ◌-◌, ◌*◌, ◌<◌, ◌≤◌, List, [], ◌∷◌, ◌++◌, length, get_or, take, drop, Ok, Err, Result, sym, refl, ap, ◌∙◌, subst, append_assoc, append-nil, add-zero, suc-add, mul-zero, zero-add, mul-suc, add-one, arith, length-append, length-drop, length-take, take_at, take-add, drop_at}
 use Rattle.std.proofs.lemmas.List.{drop-drop, flat_map_more, length_push}
 use Rattle.std.specs.List.{flat_map}
 use Rattle.std.specs.Result.{result_map_both}
@@ -16,7 +16,8 @@ use Rattle.record.proofs.Digits.{bytes_take, bytes_drop}
 use Rattle.record.proofs.Codec.{length_record, record_there, record_back}
 use Rattle.trace.specs.declared.fault.EntryFault.{EntryFault}
 use Rattle.trace.specs.declared.fault.RefusedRecord.{RefusedRecord}
-use Rattle.frame.specs.Layout.{record_at}
+use Rattle.frame.specs.Layout.{record_count, record_at, records_in}
+use Rattle.frame.proofs.RecordPlaces.{length_records, record_in_turn}
 use Rattle.trace.specs.Answers.{left_at, left_by}
 use Rattle.trace.specs.Reading.{Run, if_entered, if_decoded, after, taken, next, run}
 use Rattle.trace.specs.Reading.Run.{going, stopped}
@@ -37,6 +38,14 @@ record_add bs i =
     ap (λ n. take n (drop 8 bs)) e ∙ take-add (24 * i) 24 (drop 8 bs)
     ∙ ap (λ z. take (24 * i) (drop 8 bs) ++ take 24 z) (drop-drop (24 * i) 8 bs)
 
+-- a record's answer, with the place where it is refused
+abbrev pub placed : ℕ → Result (Unit {0}) EntryFault → Result (Unit {0}) RefusedRecord
+placed i = result_map_both (λ u. u) (λ e. record { place = i; fault = e })
+
+left_placed : {I : Type 0} (i : ℕ) (r : Result (Unit {0}) EntryFault) (os : List (Operation I)) → left_at i r os ≡ left_by (placed i r) os
+left_placed i (Ok u) os = refl
+left_placed i (Err e) os = refl
+
 module _ {I : Type 0} (t : Ghosts I) (room : ℕ) (bs : List ℕ) where
   -- once stopped, always stopped
   stays : (d i j : ℕ) (os : List (Operation I)) (e : EntryFault) → run t room bs i ≡ stopped os j e → run t room bs (d + i) ≡ stopped os j e
@@ -51,24 +60,23 @@ module _ {I : Type 0} (t : Ghosts I) (room : ℕ) (bs : List ℕ) where
   one_more i os rec r p q s =
       ap (run t room bs) (add-one i) ∙ ap (next t room bs i) p ∙ ap (λ z. after os i (taken t room os z)) (sym q) ∙ s
 
-  -- a turn of the loop, on a sheet whose room is as it was
-  pub turn : (i room' : ℕ) (os : List (Operation I)) (rec : List ℕ) (r : Run I) → run t room bs i ≡ going os → room' ≡ room →
-      rec ≡ record_at i bs → after os i (taken t room' os rec) ≡ r → run t room bs (i + 1) ≡ r
-  turn i room' os rec r p same q s = one_more i os rec r p q (ap (λ m. after os i (taken t m os rec)) (sym same) ∙ s)
+  -- a turn of the loop over the records, on a sheet whose room is as it was
+  module _ (i room' : ℕ) (recs : List (List ℕ)) (os fin : List (Operation I)) (r : Result (Unit {0}) EntryFault) (all : recs ≡ records_in bs)
+      (inside : i < length recs) (before : run t room bs i ≡ going os) (same : room' ≡ room)
+      (step : (j : ℕ) → after os j (taken t room' os (get_or recs i [])) ≡ left_at j r fin) where
+    counted : i < record_count bs
+    counted = let l = ap length all ∙ length_records bs in omega arith
 
-  pub turned_away : (i n j room' : ℕ) (os fin : List (Operation I)) (rec : List ℕ) (e : EntryFault) → run t room bs i ≡ going os → room' ≡ room →
-      rec ≡ record_at i bs → after os i (taken t room' os rec) ≡ stopped fin j e → i < n → run t room bs n ≡ stopped fin j e
-  turned_away i n j room' os fin rec e p same q s h =
-      let k : n - (i + 1) + (i + 1) ≡ n = omega arith in
-      ap (run t room bs) (sym k) ∙ stays (n - (i + 1)) (i + 1) j fin e (turn i room' os rec (stopped fin j e) p same q s)
+    pub turn : run t room bs (i + 1) ≡ left_by (placed i r) fin
+    turn =
+        let here = ap (λ rs. get_or rs i []) all ∙ record_in_turn i bs [] counted in
+        one_more i os (get_or recs i []) (left_by (placed i r) fin) before here (ap (λ m. after os i (taken t m os (get_or recs i []))) (sym same) ∙ step i ∙ left_placed i r fin)
 
--- a record's answer, with the place where it is refused
-abbrev pub placed : ℕ → Result (Unit {0}) EntryFault → Result (Unit {0}) RefusedRecord
-placed i = result_map_both (λ u. u) (λ e. record { place = i; fault = e })
-
-pub left_placed : {I : Type 0} (i : ℕ) (r : Result (Unit {0}) EntryFault) (os : List (Operation I)) → left_at i r os ≡ left_by (placed i r) os
-left_placed i (Ok u) os = refl
-left_placed i (Err e) os = refl
+    pub turned_away : (e : RefusedRecord) → placed i r ≡ Err e → run t room bs (record_count bs) ≡ stopped fin e.place e.fault
+    turned_away e p =
+        let n = record_count bs in
+        let k : record_count bs - (i + 1) + (i + 1) ≡ record_count bs = let h = counted in omega arith in
+        ap (run t room bs) (sym k) ∙ stays (n - (i + 1)) (i + 1) e.place fin e.fault (turn ∙ ap (λ m. left_by m fin) p)
 
 module _ {I : Type 0} (t : Ghosts I) (room : ℕ) where
   entered_back : (os : List (Operation I)) (x op : Operation I) (r : Result ℕ SheetFault) → enter_answer t.number room os x ≡ r → if_entered x r ≡ Ok op →

@@ -1,9 +1,7 @@
 -- Writing a trace part by part.
-use Rattle.std.proofs.Common.{◌≡◌, ℕ, ◌+◌, ◌*◌, ◌^◌, ◌<◌, ◌≤◌, false, not, eqb, ltb, List, [], ◌∷◌, ◌++◌, length, get_or, take, drop, Ok, sym, refl, ap, ◌∙◌, append_assoc, append-nil, mul-zero, mul-suc, add-one, arith, length-append, length-take-le, take_all, take_at, drop_at}
+use Rattle.std.proofs.Common.{◌≡◌, ℕ, ◌+◌, ◌*◌, ◌^◌, ◌<◌, ◌≤◌, List, [], ◌∷◌, ◌++◌, length, get_or, take, drop, sym, refl, ap, ◌∙◌, append_assoc, append-nil, mul-zero, mul-suc, add-one, arith, length-append, length-take-le, take_all, take_at, drop_at}
 use Rattle.std.proofs.lemmas.List.{drop-drop, take-append-drop, take_more, flat_map_more}
-use Rattle.std.proofs.lemmas.Bool.Decides.{nat_tests}
 use Rattle.std.specs.List.{flat_map}
-use Rattle.refusal.proofs.Checks.{pass}
 use Rattle.item.specs.declared.item.Item.{Ghosts}
 use Rattle.item.specs.Items.{Lawful}
 use Rattle.sheet.specs.Consistency.{Consistent}
@@ -11,13 +9,11 @@ use Rattle.sheet.specs.declared.operation.Operation.{Operation}
 use Rattle.record.specs.Bytes.{big}
 use Rattle.record.specs.Records.{encode_record}
 use Rattle.record.proofs.Codec.{length_record}
-use Rattle.trace.specs.declared.fault.WriteFault.TheVariants.{Kind, OrderLength, Memory}
 use Rattle.frame.specs.Headers.{bytes_of_header}
 use Rattle.frame.specs.Orders.{Small}
 use Rattle.trace.specs.Contents.{contents, encode, AllFit}
 use Rattle.trace.specs.Reading.{reading}
 use Rattle.trace.specs.Reading.Outcome.{accepted}
-use Rattle.trace.specs.Writing.{writing}
 use Rattle.frame.proofs.HeaderFields.{length_header}
 use Rattle.trace.proofs.Runs.{length_joined}
 use Rattle.trace.proofs.Entries.{consistent_again}
@@ -81,13 +77,6 @@ whole t code kind k ops order head mem o₁ o₂ o₃ same e h p q r =
     grow (head ++ flat_map (encode_record t) ops) mem o₂ o₃ (flat_map (big 2) order) (8 + 24 * length ops) (2 * length order) (8 + 26 * length ops)
     (rw length-append (omega arith)) a r (omega arith)
     ∙ ap (λ x. x ++ flat_map (encode_record t) ops ++ flat_map (big 2) order ++ drop (8 + 26 * length ops) mem) hd
-
-pub answering : (kind n m size : ℕ) → kind ≤ 2 → m ≡ n → 8 + 26 * n ≤ size → Ok tt ≡ writing kind n m size
-answering kind n m size h e l =
-    let a : ltb 2 kind ≡ false = grind (arith, nat_tests) in
-    let b : not (eqb m n) ≡ false = grind (arith, nat_tests) in
-    let d : ltb size (8 + 26 * n) ≡ false = grind (arith, nat_tests) in
-    sym (pass (ltb 2 kind) Kind _ tt a (pass (not (eqb m n)) OrderLength _ tt b (pass (ltb size (8 + 26 * n)) Memory _ tt d refl)))
 
 -- a written trace reads as what went in
 pub reads_back : {I : Type 0} (t : Ghosts I) → Lawful t → (kind k : ℕ) (ops : List (Operation I)) (order out rest : List ℕ) → kind ≤ 2 → k < 2 ^ 16 →

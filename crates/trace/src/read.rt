@@ -59,10 +59,10 @@ pub fn read<'a, I: Item>(bytes: &'a [u8], sheet: &mut Sheet<I>) -> Result<Accept
     let header = read_header(bytes, I::TYPE)?;
     sheet.clear();
     take_all(&Trace::new(bytes), sheet)?;
-    let from = 8 + 24 * header.count as usize;
+    let from = 8 + 24 * usize::from(header.count);
     Ok(Accepted {
         kind: header.kind,
         k: header.k,
-        order: Order::new(&bytes[from..bytes.len()]),
+        order: Order::new(&bytes[from..]),
     })
 }

@@ -1,11 +1,14 @@
-use Rattle.std.proofs.Common.{length, take, ap, ◌∙◌}
-use Rattle.sheet.specs.Sheets.{entered}
+use Rattle.std.proofs.Common.{◌+◌, ◌*◌, ◌++◌, length, take, drop, Ok, sym, ap, ◌∙◌, arith}
+use Rattle.std.proofs.lemmas.Bool.Decides.{nat_tests}
+use Rattle.std.proofs.lemmas.Result.{err_from_is_err_and}
+use Rattle.sheet.specs.Sheets.{entered, room}
 use Rattle.frame.specs.Orders.{order_of}
 use Rattle.trace.specs.Answers.{contents_of}
-use Rattle.trace.specs.Contents.{contents}
+use Rattle.trace.specs.Contents.{contents, encode}
 use Rattle.trace.specs.Reading.{reading}
 use Rattle.trace.specs.Reading.Outcome.{accepted}
-use Rattle.trace.proofs.Readings.{length_encode}
+use Rattle.trace.proofs.Readings.{length_encode, accepted_of}
+use Rattle.trace.proofs.Copies.{not_read}
 use Rattle.trace.proofs.copy.copy.Goals as goal
 
 pub returns-clause-written_reads_as_what_went_in : goal.returns-clause-written_reads_as_what_went_in
@@ -18,3 +21,35 @@ returns-clause-written_reads_as_what_went_in g c =
     λ n h.
     ap (λ z. reading g.I.Item n (take z c.write.new.out)) long ∙ c.in_ok-write.ensures.reads_as_what_went_in n h
     ∙ ap (λ xs. accepted (contents c.into.result a.k os xs)) items ∙ ap (λ kind. accepted (contents kind a.k os (order_of a.order))) c.into.ensures
+
+pub returns-clause-written_back_is_its_own_bytes : goal.returns-clause-written_back_is_its_own_bytes
+returns-clause-written_back_is_its_own_bytes g c =
+    let e = c.in_ok-accepted.ensures in
+    let a = c.in_ok-accepted.accepted in
+    let os = entered c.read.new.sheet in
+    let mem = c.args.out.now in
+    let long = ap length e.accepted_is_encoded ∙ length_encode g.I.Item (contents_of a os) e.accepted_is_sound.ordered in
+    let items = c.as_slice.ensures.value ∙ c.in_ok-order.ensures in
+    let same = ap (λ xs. contents c.into.result a.k os xs) items ∙ ap (λ kind. contents kind a.k os (order_of a.order)) c.into.ensures in
+    c.in_ok-write.ensures.bytes ∙ ap (λ d. encode g.I.Item d ++ drop (8 + 26 * length os) mem) same ∙ ap (λ z. z ++ drop (8 + 26 * length os) mem) (sym e.accepted_is_encoded)
+    ∙ ap (λ m. c.args.bytes.now ++ drop m mem) (sym long)
+
+pub returns-clause-answer : goal.returns-clause-answer
+returns-clause-answer g c =
+    let e = c.in_ok-accepted.ensures in
+    let read = accepted_of (Ok c.in_ok-accepted.accepted) (reading g.I.Item (room c.args.sheet.now) c.args.bytes.now) (entered c.args.sheet.now) (entered c.read.new.sheet) e.answer e.entered in
+    let w = c.in_ok-write.ensures.answer in
+    grind (arith, nat_tests)
+
+pub returns-in_err-write-clause-answer : goal.returns-in_err-write-clause-answer
+returns-in_err-write-clause-answer g c =
+    let e = c.in_ok-accepted.ensures in
+    let p = err_from_is_err_and c.from_residual-in_err-write.result c.from_residual-in_err-write.ensures.1 in
+    let read = accepted_of (Ok c.in_ok-accepted.accepted) (reading g.I.Item (room c.args.sheet.now) c.args.bytes.now) (entered c.args.sheet.now) (entered c.read.new.sheet) e.answer e.entered in
+    let w = c.in_err-write.ensures.answer in
+    rw (p.1, p.2) (grind (arith, nat_tests))
+
+pub returns-in_err-accepted-clause-answer : goal.returns-in_err-accepted-clause-answer
+returns-in_err-accepted-clause-answer g c =
+    let p = err_from_is_err_and c.from_residual.result c.from_residual.ensures.1 in
+    rw (p.1, p.2) (not_read (length c.args.out.now) (reading g.I.Item (room c.args.sheet.now) c.args.bytes.now) c.in_err-accepted.field-0.0 c.in_err-accepted.ensures.answer)

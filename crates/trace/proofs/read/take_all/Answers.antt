@@ -1,13 +1,13 @@
-use Rattle.std.proofs.Common.{◌≡◌, ◌<◌, [], get_or, length, sym, ap, ◌∙◌, arith, rules}
+use Rattle.std.proofs.Common.{◌≡◌, length, sym, ap, ◌∙◌, arith, rules}
 use Rattle.std.proofs.lemmas.Result.{err_from_is_err_and}
+use Rattle.sheet.proofs.Fills.{loan_same, loan_twice}
 use Rattle.sheet.specs.Sheets.{entered, room}
 use Rattle.frame.specs.Layout.{record_count}
-use Rattle.frame.proofs.RecordPlaces.{length_records, record_in_turn}
+use Rattle.frame.proofs.RecordPlaces.{length_records}
 use Rattle.trace.specs.Reading.{run}
 use Rattle.trace.specs.Reading.Run.{going}
 use Rattle.trace.specs.Answers.{left_by}
-use Rattle.sheet.proofs.Fills.{loan_same, loan_twice}
-use Rattle.trace.proofs.Runs.{placed, left_placed, turn, turned_away}
+use Rattle.trace.proofs.Runs.{placed, turn, turned_away}
 use Rattle.trace.proofs.read.take_all.Goals as goal
 
 pub loop-place-init : goal.loop-place-init
@@ -20,41 +20,31 @@ overflow_cast-place g c =
 
 pub returns-in_err-map_err : goal.returns-in_err-map_err
 returns-in_err-map_err g c =
-    let bs = c.args.trace.now.bytes.now in
-    let i = c.loop-place.place in
     let s = c.loop-place.sheet in
     let fin = c.take_record.new.sheet in
-    let fault = c.in_err-map_err.field-0.0 in
     let e = c.take_record.ensures in
     let v = c.loop-place.invariant in
     let p = err_from_is_err_and c.from_residual.result c.from_residual.ensures.1 in
-    let l = ap length c.records-rec-items.ensures ∙ length_records bs in
-    let inside : c.loop-place.place < record_count c.args.trace.now.bytes.now = omega arith in
-    let here = ap (λ rs. get_or rs i []) c.records-rec-items.ensures ∙ record_in_turn i bs [] inside in
     let q : c.map_err.result ≡ placed c.loop-place.place c.take_record.result = search rules in
-    let left = e.step i ∙ left_placed i c.take_record.result (entered fin) ∙ ap (λ r. left_by r (entered fin)) (sym q ∙ c.in_err-map_err.was) in
     rw (p.1, p.2) (record {
       run =
-          turned_away g.I.Item (room c.args.sheet.now) bs i (record_count bs) fault.place (room s) (entered s) (entered fin) _ fault.fault v.taken v.loan.room here
-          left inside;
+          turned_away g.I.Item (room c.args.sheet.now) c.args.trace.now.bytes.now c.loop-place.place (room s) c.records-rec-items.result.now (entered s) (entered fin)
+          c.take_record.result c.records-rec-items.ensures c.loop-place-test.true v.taken v.loan.room e.step c.in_err-map_err.field-0.0 (sym q ∙ c.in_err-map_err.was);
       loan = loan_twice c.args.sheet.now s fin v.loan e.loan e.grows;
     })
 
 pub loop-place-preserved : goal.loop-place-preserved
 loop-place-preserved g c =
-    let bs = c.args.trace.now.bytes.now in
-    let i = c.loop-place.place in
     let s = c.loop-place.sheet in
     let fin = c.take_record.new.sheet in
     let e = c.take_record.ensures in
     let v = c.loop-place.invariant in
-    let l = ap length c.records-rec-items.ensures ∙ length_records bs in
-    let inside : c.loop-place.place < record_count c.args.trace.now.bytes.now = omega arith in
-    let here = ap (λ rs. get_or rs i []) c.records-rec-items.ensures ∙ record_in_turn i bs [] inside in
     let q : c.map_err.result ≡ placed c.loop-place.place c.take_record.result = search rules in
-    let left = e.step i ∙ left_placed i c.take_record.result (entered fin) ∙ ap (λ r. left_by r (entered fin)) (sym q ∙ c.in_ok-map_err.was) in
     record {
-      taken = turn g.I.Item (room c.args.sheet.now) bs i (room s) (entered s) _ _ v.taken v.loan.room here left;
+      taken =
+          turn g.I.Item (room c.args.sheet.now) c.args.trace.now.bytes.now c.loop-place.place (room s) c.records-rec-items.result.now (entered s) (entered fin)
+          c.take_record.result c.records-rec-items.ensures c.loop-place-test.true v.taken v.loan.room e.step
+          ∙ ap (λ r. left_by r (entered fin)) (sym q ∙ c.in_ok-map_err.was);
       loan = loan_twice c.args.sheet.now s fin v.loan e.loan e.grows;
     }
 

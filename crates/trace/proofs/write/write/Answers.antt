@@ -1,5 +1,6 @@
 use Rattle.std.proofs.Common.{◌≡◌, ◌+◌, ◌*◌, ◌≤◌, [], ◌++◌, length, drop, Ok, ap, ◌∙◌, subst, arith, rules}
 use mathlib.Core.Logic.{∥∥₁_map}
+use Rattle.std.proofs.lemmas.Bool.Decides.{nat_tests}
 use Rattle.item.proofs.Laws.{lawful}
 use Rattle.sheet.specs.Consistency.{Consistent}
 use Rattle.sheet.specs.Sheets.{entered}
@@ -7,7 +8,7 @@ use Rattle.frame.specs.Headers.{bytes_of_header}
 use Rattle.frame.specs.Kinds.{kind_named}
 use Rattle.frame.proofs.KindNumbers.{number_named, number_small}
 use Rattle.trace.specs.Contents.{contents, encode, AllFit}
-use Rattle.trace.proofs.Writes.{whole, answering, reads_back}
+use Rattle.trace.proofs.Writes.{whole, reads_back}
 use Rattle.trace.proofs.write.write.Goals as goal
 
 pub returns : goal.returns
@@ -33,7 +34,7 @@ returns g c =
     let kind : c.args.kind ≤ 2 = omega (arith, number) in
     let consistent = ∥∥₁_map c.all-ops.ensures.consistent (subst (Consistent []) items) in
     record {
-      answer = answering c.args.kind (length (entered c.args.sheet.now)) (length order) (length mem) kind (c.if-order-ops.false ∙ n) (omega arith);
+      answer = grind (arith, nat_tests);
       bytes = bytes;
       reads_as_what_went_in =
           reads_back t law c.args.kind k (entered c.args.sheet.now) order c.put_rows-2.new.out (drop (8 + 26 * length (entered c.args.sheet.now)) mem)
