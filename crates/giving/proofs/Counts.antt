@@ -1,8 +1,9 @@
 -- How often a code stands in a list. Assumes nothing.
-use Rattle.std.proofs.Common.{◌≡◌, ℕ, zero, suc, ◌+◌, ◌-◌, ◌<◌, ◌≤◌, cond, eqb, List, [], ◌∷◌, ◌++◌, reverse, length, get_or, take, drop, sym, refl, ap, ◌∙◌, ⊎_elim, arith, take-append-drop}
+use Rattle.std.proofs.Common.{◌≡◌, ℕ, zero, suc, ◌+◌, ◌-◌, ◌<◌, ◌≤◌, cond, eqb, List, [], ◌∷◌, ◌++◌, reverse, length, get_or, take, drop, refl, ap, arith, take-append-drop}
 use Rattle.std.specs.List.{insert, remove, AllByRecursion}
 use Rattle.std.proofs.lemmas.List.{reverse-append}
-use Rattle.std.proofs.lemmas.Bool.{cond_both, cond-true, cond-false, eqb-true, eqb-false, eq-eqb, ne_eqb, cases_lt, cases_Bool}
+use Rattle.std.proofs.lemmas.Bool.Decides.{nat_tests}
+use Rattle.std.proofs.lemmas.Bool.{cond_both}
 use Rattle.giving.specs.Lists.{times, without, Once, Below}
 
 pub times_append : (a : ℕ) (xs ys : List ℕ) → times a (xs ++ ys) ≡ times a xs + times a ys
@@ -17,19 +18,8 @@ times_take a i L = omega (arith, times_append a (take i L) (drop i L), ap (times
 
 -- a code that is taken out stands there one time less, and any other as often
 pub times_without : (a c : ℕ) (L : List ℕ) → times a (without c L) ≡ times a L - cond (eqb a c) 1 0
-times_without a c [] = cond_both (eqb a c) 1 0 (λ v. 0 ≡ 0 - v) (λ e. omega arith) (λ e. omega arith)
-times_without a c (x ∷ xs) =
-    ⊎_elim
-    (λ t. ap (times a) (cond-true (eqb c x) xs (x ∷ without c xs) t) ∙ omega (arith, ap (λ y. cond {A = ℕ} (eqb a y) 1 0) (eqb-true c x t)))
-    (λ t.
-    let h = times_without a c xs in
-    let ne = eqb-false c x t in
-    ap (times a) (cond-false (eqb c x) xs (x ∷ without c xs) t)
-    ∙ ⊎_elim
-    (λ e. let off = cond-false {A = ℕ} (eqb a x) 1 0 (ne_eqb a x (λ p. ne (sym (eqb-true a c e) ∙ p))) in let on = cond-true {A = ℕ} (eqb a c) 1 0 e in omega arith)
-    (λ e. let off = cond-false {A = ℕ} (eqb a c) 1 0 e in omega arith)
-    (cases_Bool (eqb a c)))
-    (cases_Bool (eqb c x))
+times_without a c [] = grind (arith, nat_tests)
+times_without a c (x ∷ xs) = grind (arith, nat_tests, times_without a c xs)
 
 pub times_removed : (a i : ℕ) (L : List ℕ) → times a (remove L i) ≤ times a L
 times_removed a zero [] = omega arith
@@ -48,20 +38,17 @@ times_reverse a (x ∷ xs) = omega (arith, ap (times a) (reverse-append (x ∷ [
 -- what stands at some place stands there some times
 pub times_at : (a k : ℕ) (L : List ℕ) → k < length L → get_or L k 0 ≡ a → 1 ≤ times a L
 times_at a k [] h e = omega arith
-times_at a zero (x ∷ xs) h e = omega (arith, cond-true {A = ℕ} (eqb a x) 1 0 (eq-eqb a x (sym e)))
-times_at a (suc k) (x ∷ xs) h e = omega (arith, times_at a k xs (omega arith) e)
+times_at a zero (x ∷ xs) h e = grind (arith, nat_tests)
+times_at a (suc k) (x ∷ xs) h e = grind (arith, nat_tests, times_at a k xs (omega arith) e)
 
 -- what stands at no place stands there no times
 pub times_none : (a : ℕ) (L : List ℕ) → ((k : ℕ) → k < length L → get_or L k 0 ≡ a → ⊥) → times a L ≡ 0
 times_none a [] f = refl
-times_none a (x ∷ xs) f =
-    cond_both (eqb a x) 1 0 (λ v. v + times a xs ≡ 0) (λ e. absurd (f 0 (omega arith) (sym (eqb-true a x e))))
-    (λ e. omega (arith, times_none a xs (λ k h. f (suc k) (omega arith))))
+times_none a (x ∷ xs) f = grind (arith, nat_tests, f 0, times_none a xs (λ k h. f (suc k) (omega arith)))
 
 -- a code that was not in the list comes in once
 pub once_more : (a x : ℕ) (xs : List ℕ) → times x xs ≡ 0 → times a xs ≤ 1 → times a (x ∷ xs) ≤ 1
-once_more a x xs z h =
-    cond_both (eqb a x) 1 0 (λ v. v + times a xs ≤ 1) (λ e. omega (arith, ap (λ b. times b xs) (eqb-true a x e))) (λ e. omega arith)
+once_more a x xs z h = grind (arith, nat_tests)
 
 pub once_push : (x : ℕ) (L : List ℕ) → times x L ≡ 0 → Once L → Once (L ++ x ∷ [])
 once_push x L z o a = omega (arith, times_append a L (x ∷ []), once_more a x L z (o a))
@@ -74,11 +61,8 @@ pub below_fewer : (n : ℕ) (L M : List ℕ) → ((a : ℕ) → times a M ≤ ti
 below_fewer n L M f b a l = omega (arith, f a, b a l)
 
 pub below_push : (n x : ℕ) (L : List ℕ) → x < n → Below n L → Below n (L ++ x ∷ [])
-below_push n x L h b a l =
-    cond_both (eqb a x) 1 0 (λ v. times a (L ++ x ∷ []) ≡ times a L + v → times a (L ++ x ∷ []) ≡ 0) (λ e p. absurd (omega (arith, eqb-true a x e))) (λ e p. omega (arith, b a l))
-    (omega (arith, times_append a L (x ∷ [])))
+below_push n x L h b a l = grind (arith, nat_tests, b a l, times_append a L (x ∷ []))
 
 -- what stands at a place is below n
 pub below_at : (n k : ℕ) (L : List ℕ) → Below n L → k < length L → get_or L k 0 < n
-below_at n k L b h =
-    ⊎_elim (λ (l : get_or L k 0 < n). l) (λ (l : n ≤ get_or L k 0). absurd (omega (arith, b (get_or L k 0) l, times_at (get_or L k 0) k L h refl))) (cases_lt (get_or L k 0) n)
+below_at n k L b h = grind (arith, b (get_or L k 0), times_at (get_or L k 0) k L h refl)

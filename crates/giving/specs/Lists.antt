@@ -1,5 +1,5 @@
 -- Lists of codes: how often a code stands in one, where it stands first, and the list without it. Assumes nothing.
-use Rattle.std.specs.Prelude.{◌≡◌, ℕ, suc, ◌+◌, ◌≤◌, Bool, cond, List, [], ◌∷◌, length, ◌==◌, nat_lt}
+use Rattle.std.specs.Prelude.{◌≡◌, ℕ, suc, ◌+◌, ◌≤◌, Bool, cond, List, [], ◌∷◌, Option, Some, None, length, ◌==◌, nat_lt}
 
 -- how often a stands in a list: a does not stand in it where that is 0
 abbrev pub times : ℕ → List ℕ → ℕ
@@ -14,6 +14,10 @@ place a (x ∷ xs) = cond (a == x) 0 (suc (place a xs))
 -- whether a has a place in a list
 abbrev pub stands : ℕ → List ℕ → Bool
 stands a L = nat_lt (place a L) (length L)
+
+-- the first place of a in a list, if it has one
+abbrev pub first_place : ℕ → List ℕ → Option ℕ
+first_place a L = cond (stands a L) (Some (place a L)) None
 
 -- a list without the first a in it, the others in their order
 abbrev pub without : ℕ → List ℕ → List ℕ

@@ -1,8 +1,8 @@
 -- The first n of a list after a write at n, and after a shift down to i. Assumes nothing.
-use Rattle.std.proofs.Common.{◌≡◌, ℕ, suc, ◌+◌, ◌-◌, ◌<◌, ◌≤◌, Bool, true, false, cond, List, [], ◌∷◌, ◌++◌, reverse, length, take, drop, sym, refl, ap, ◌∙◌, add-one, arith}
+use Rattle.std.proofs.Common.{◌≡◌, ℕ, suc, ◌+◌, ◌-◌, ◌<◌, ◌≤◌, List, length, take, drop, add-one, arith}
 use lib.Seq.{paste}
 use Rattle.std.specs.List.{remove}
-use Rattle.std.proofs.lemmas.List.{take-take, drop-take, length-drop, length-take-le, reverse-append}
+use Rattle.std.proofs.lemmas.List.{take-take, drop-take, length-drop, length-take-le}
 use Rattle.std.proofs.lemmas.List.Edits.{take-paste}
 use Rattle.holder.specs.declared.row.Row.{Row}
 use Rattle.holder.specs.Rows.{row_list}
@@ -12,18 +12,12 @@ shifted xs ys n i w h e =
     let m : ℕ = n - (i + 1) in
     let nm : n ≡ suc i + m = omega arith in
     let n1 : n - 1 ≡ i + m = omega arith in
-    let il : i ≤ n = omega arith in
-    let front : take i (take n xs) ≡ take i xs = take-take i n xs il in
-    let back : drop (suc i) (take n xs) ≡ take m (drop (i + 1) xs) = ap (λ k. drop (suc i) (take k xs)) nm ∙ drop-take (suc i) m xs ∙ ap (λ k. take m (drop k xs)) (sym (add-one i)) in
-    let ml : m ≤ length (drop (i + 1) xs) = rw length-drop (omega arith) in
-    let all : take (i + m) (paste xs i (drop (i + 1) xs) m) ≡ take i xs ++ take m (drop (i + 1) xs) = take-paste xs i (drop (i + 1) xs) m (omega arith) ml in
-    ap (λ k. take k ys) n1 ∙ ap (take (i + m)) e ∙ all ∙ sym (ap (λ l. l ++ drop (suc i) (take n xs)) front ∙ ap (λ l. take i xs ++ l) back)
+    let front = take-take i n xs (omega arith) in
+    let back = drop-take (suc i) m xs in
+    let long : m ≤ length (drop (i + 1) xs) = rw length-drop (omega arith) in
+    let all = take-paste xs i (drop (i + 1) xs) m (omega arith) long in
+    cc (add-one i)
 
 -- what a row holds after the codes behind place i moved up by one
 pub row_removed : (r : Row) (ys : List ℕ) (i : ℕ) → i < length (row_list r) → ys ≡ paste r.codes i (drop (i + 1) r.codes) (r.len - (i + 1)) → take (r.len - 1) ys ≡ remove (row_list r) i
 row_removed r ys i h e = let n = length-take-le r.len r.codes (omega arith) in shifted r.codes ys r.len i (omega arith) (omega arith) e
-
--- a row that grew at its end or not, read from the end
-pub reverse_either : (b : Bool) (L : List ℕ) (c : ℕ) → reverse (cond b (L ++ c ∷ []) L) ≡ cond b (c ∷ reverse L) (reverse L)
-reverse_either true L c = reverse-append L (c ∷ [])
-reverse_either false L c = refl

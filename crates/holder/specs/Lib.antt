@@ -1,4 +1,6 @@
 pub mod Faults
 pub mod Answers
 pub mod Rows
+pub mod Ends
 pub mod Kinds
+pub mod Given

@@ -18,12 +18,11 @@ pub enum HolderFault {
     NoSuchPlace,
 }
 
-impl HolderFault {
-    // The refusal in plain numbers.
-    pub fn refusal(&self) -> Refusal
-        ensures { result ≡ holder_refusal self.now }
-    {
-        let number = match self {
+impl From<HolderFault> for Refusal {
+    ghost from_gives = { λ fault refusal. refusal ≡ holder_refusal fault };
+
+    fn from(fault: HolderFault) -> Refusal {
+        let number = match fault {
             HolderFault::CodeTooLarge => 40,
             HolderFault::AlreadyHeld => 41,
             HolderFault::AddsUsedUp => 42,

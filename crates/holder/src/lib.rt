@@ -3,6 +3,7 @@
 
 pub mod fault;
 pub mod holder;
+pub mod line;
 pub mod queue;
 mod row;
 pub mod stack;

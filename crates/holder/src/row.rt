@@ -7,6 +7,7 @@ mod writing;
 
 #[derive(Drop)]
 pub struct Row {
+    // Kept (rule of the project): an array of 1,024 and a length beside it, since a holder is fixed memory with no heap.
     codes: [u16; 1024],
     len: u16,
     added: u16,

@@ -1,82 +1,25 @@
-// The stack: what came last is given first. Its giving list is the row, read from the end.
-ghost use Rattle.std.specs.Prelude.{◌≡◌, []};
-ghost use Rattle.holder.specs.Kinds.{stack_list, stack_seat};
-ghost use Rattle.std.proofs.Common.{arith, rules};
-ghost use Rattle.std.proofs.lemmas.List.{length-reverse, length-take-le};
-ghost use Rattle.giving.proofs.Counts.{times_reverse, once_fewer, below_fewer};
-ghost use Rattle.holder.specs.Rows.{row_list};
+// The stack: what came last is given first.
+ghost use Rattle.std.specs.Prelude.{◌-◌};
+ghost use Rattle.holder.specs.Kinds.{stack_given, stack_seat};
+ghost use Rattle.holder.specs.Given.{back_laws};
 
-use crate::fault::HolderFault;
-use crate::holder::Holder;
-use crate::row::Row;
+use crate::line::{End, Line};
 
-#[derive(Drop)]
-pub struct Stack {
-    row: Row,
-}
+// The back of the row: the giving list is the row, read from its end.
+pub struct Back;
 
-impl Stack {
-    pub fn new() -> Stack
-        ensures list { stack_list result ≡ [] }
-        ensures count { result.row.added ≡ 0 }
-    {
-        Stack { row: Row::new() }
-    }
-}
-
-impl Holder for Stack {
-    ghost giving = { stack_list };
-
-    ghost adds = { λ s. s.row.added };
+impl End for Back {
+    ghost given = { stack_given };
 
     ghost seat = { stack_seat };
 
-    ghost seated = { Prim.search rules };
+    ghost across = { λ n i. n - 1 - i };
 
-    ghost sound = { λ s.
-        let r = s.row in
-        let L = row_list r in
-        let n = length-reverse L in
-        let m = length-take-le r.len r.codes (omega arith) in
-        record {
-          once = once_fewer L (stack_list s) (λ a. omega (arith, times_reverse a L)) r.once;
-          below = below_fewer 1024 L (stack_list s) (λ a. omega (arith, times_reverse a L)) r.below;
-          held = omega arith;
-          few = omega arith;
-        } };
+    ghost laws = { back_laws };
 
-    fn count(&self) -> u16 {
-        self.row.len()
-    }
-
-    fn rank(&self, code: u16) -> Result<u16, HolderFault> {
-        let i = self.row.find(code);
-        let n = self.row.len();
-        if i < n {
-            Ok(n - 1 - i)
-        } else {
-            Err(HolderFault::NotHeld)
-        }
-    }
-
-    fn at(&self, place: u16) -> Result<u16, HolderFault> {
-        let n = self.row.len();
-        if place < n {
-            Ok(self.row.get(n - 1 - place))
-        } else {
-            Err(HolderFault::NoSuchPlace)
-        }
-    }
-
-    fn clear(&mut self) {
-        self.row.clear();
-    }
-
-    fn add(&mut self, code: u16) -> Result<(), HolderFault> {
-        self.row.add(code)
-    }
-
-    fn take(&mut self, code: u16) -> Result<(), HolderFault> {
-        self.row.take(code)
+    fn place(n: u16, i: u16) -> u16 {
+        n - 1 - i
     }
 }
+
+pub type Stack = Line<Back>;

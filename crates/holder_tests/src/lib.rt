@@ -22,69 +22,57 @@ mod plain {
         pub seat: Seat,
     }
 
-    fn place(list: &[u16], code: u16) -> Option<usize> {
-        for (i, c) in list.iter().enumerate() {
-            if *c == code {
-                return Some(i);
-            }
-        }
-        None
-    }
-
-    fn number(n: usize) -> Result<HolderAnswer, Fail> {
-        Ok(HolderAnswer::Number(u16::try_from(n)?))
-    }
-
     impl Plain {
         fn add(&mut self, code: u16) -> Result<HolderAnswer, Fail> {
             if code > 1023 {
-                return Ok(HolderAnswer::Refused(HolderFault::CodeTooLarge));
+                return Ok(Err(HolderFault::CodeTooLarge));
             }
-            if place(&self.list, code).is_some() {
-                return Ok(HolderAnswer::Refused(HolderFault::AlreadyHeld));
+            if self.list.contains(&code) {
+                return Ok(Err(HolderFault::AlreadyHeld));
             }
             if self.adds > 1023 {
-                return Ok(HolderAnswer::Refused(HolderFault::AddsUsedUp));
+                return Ok(Err(HolderFault::AddsUsedUp));
             }
             self.adds += 1;
             match self.seat {
                 Seat::End => self.list.push(code)?,
                 Seat::Front => self.list.insert(0, code)?,
             }
-            Ok(HolderAnswer::Done)
+            Ok(Ok(None))
         }
 
         fn take(&mut self, code: u16) -> HolderAnswer {
-            match place(&self.list, code) {
-                Some(i) => {
-                    if i < self.list.len() {
-                        self.list.remove(i);
-                    }
-                    HolderAnswer::Done
-                }
-                None => HolderAnswer::Refused(HolderFault::NotHeld),
-            }
+            let i = self
+                .list
+                .iter()
+                .position(|held| *held == code)
+                .ok_or(HolderFault::NotHeld)?;
+            self.list.remove(i);
+            Ok(None)
         }
 
         pub fn answer(&mut self, call: HolderCall) -> Result<HolderAnswer, Fail> {
-            match call {
+            let answer = match call {
                 HolderCall::Clear => {
                     self.list.clear();
                     self.adds = 0;
-                    Ok(HolderAnswer::Done)
+                    Ok(None)
                 }
-                HolderCall::Count => number(self.list.len()),
-                HolderCall::Rank(code) => match place(&self.list, code) {
-                    Some(i) => number(i),
-                    None => Ok(HolderAnswer::Refused(HolderFault::NotHeld)),
-                },
+                HolderCall::Count => Ok(Some(u16::try_from(self.list.len())?)),
+                HolderCall::Rank(code) => {
+                    match self.list.iter().position(|held| *held == code) {
+                        Some(i) => Ok(Some(u16::try_from(i)?)),
+                        None => Err(HolderFault::NotHeld),
+                    }
+                }
                 HolderCall::At(place) => match self.list.get(place as usize) {
-                    Some(code) => Ok(HolderAnswer::Number(*code)),
-                    None => Ok(HolderAnswer::Refused(HolderFault::NoSuchPlace)),
+                    Some(code) => Ok(Some(*code)),
+                    None => Err(HolderFault::NoSuchPlace),
                 },
-                HolderCall::Add(code) => self.add(code),
-                HolderCall::Take(code) => Ok(self.take(code)),
-            }
+                HolderCall::Add(code) => self.add(code)?,
+                HolderCall::Take(code) => self.take(code),
+            };
+            Ok(answer)
         }
     }
 
@@ -137,9 +125,9 @@ mod tests {
     use holder::holder::Holder;
     use holder::queue::Queue;
     use holder::stack::Stack;
-    use refusal::Layer;
+    use refusal::{Layer, Refusal};
     use std::test::Fail;
-    use turns::calls::{HolderAnswer, HolderTurn, answers_agree};
+    use turns::calls::{HolderTurn, answers_agree};
 
     #[test]
     fn queue_is_its_plain_list(rt: HostRuntime) -> Result<(), Fail> {
@@ -185,31 +173,27 @@ mod tests {
 
     // How often a number is refused by.
     fn refused(turns: &[HolderTurn], number: u8) -> usize {
-        let mut n: usize = 0;
-        for turn in turns {
-            if let HolderAnswer::Refused(fault) = turn.answer {
-                if fault.refusal().number == number {
-                    n = n.saturating_add(1);
-                }
-            }
-        }
-        n
+        turns
+            .iter()
+            .filter(|turn| match turn.answer {
+                Ok(_) => false,
+                Err(fault) => Refusal::from(fault).number == number,
+            })
+            .count()
     }
 
     #[test]
     fn every_refusal_is_among_the_answers(rt: HostRuntime) -> Result<(), Fail> {
         let turns = turns_of(Seat::End, rt)?;
-        assert!(rt; refused(&turns, 40) > 100);
-        assert!(rt; refused(&turns, 41) > 100);
-        assert!(rt; refused(&turns, 42) > 100);
-        assert!(rt; refused(&turns, 43) > 100);
-        assert!(rt; refused(&turns, 44) > 100);
+        for number in 40..=44 {
+            assert!(rt; refused(&turns, number) > 100);
+        }
         Ok(())
     }
 
     #[test]
     fn refusals_in_plain_numbers(rt: HostRuntime) {
-        let refusal = HolderFault::AddsUsedUp.refusal();
+        let refusal = Refusal::from(HolderFault::AddsUsedUp);
         assert_eq!(rt; refusal.layer, Layer::Holder);
         assert_eq!(rt; refusal.number, 42);
         assert_eq!(rt; refusal.place, 0);

@@ -1,9 +1,7 @@
 -- What a holder answers to a list of calls, by its seat rule alone. Assumes nothing.
-use Rattle.std.specs.Prelude.{◌≡◌, ℕ, ◌+◌, cond, List, [], ◌∷◌, length, is_ok, Ok, Err, Result}
+use Rattle.std.specs.Prelude.{◌≡◌, ℕ, ◌+◌, cond, List, [], ◌∷◌, length, Option, Some, None, is_ok, Ok, Err, Result}
 use Rattle.std.specs.List.{insert}
 use Rattle.giving.specs.Lists.{without}
-use Rattle.turns.specs.declared.calls.HolderAnswer.{HolderAnswer}
-use Rattle.turns.specs.declared.calls.HolderAnswer.TheVariants.{Done, Number, Refused}
 use Rattle.turns.specs.declared.calls.HolderCall.{HolderCall}
 use Rattle.turns.specs.declared.calls.HolderCall.TheVariants.{Clear, Count, Rank, At, Add, Take}
 use Rattle.turns.specs.declared.calls.HolderTurn.{HolderTurn}
@@ -18,18 +16,20 @@ pub record Meaning : Type 0 where
 abbrev pub meaning : List ℕ → ℕ → Meaning
 meaning L n = record { list = L; count = n }
 
-abbrev pub done_answer : Result (Unit {0}) HolderFault → HolderAnswer
-done_answer (Ok u) = Done
-done_answer (Err f) = Refused f
+-- the answer of a call that answers nothing but a refusal
+abbrev pub done_answer : Result (Unit {0}) HolderFault → Result (Option ℕ) HolderFault
+done_answer (Ok u) = Ok None
+done_answer (Err f) = Err f
 
-abbrev pub number_answer : Result ℕ HolderFault → HolderAnswer
-number_answer (Ok v) = Number v
-number_answer (Err f) = Refused f
+-- the answer of a call that answers a number
+abbrev pub number_answer : Result ℕ HolderFault → Result (Option ℕ) HolderFault
+number_answer (Ok v) = Ok (Some v)
+number_answer (Err f) = Err f
 
 -- the answer to a call
-abbrev pub answer_for : Meaning → HolderCall → HolderAnswer
-answer_for m Clear = Done
-answer_for m Count = Number (length m.list)
+abbrev pub answer_for : Meaning → HolderCall → Result (Option ℕ) HolderFault
+answer_for m Clear = Ok None
+answer_for m Count = Ok (Some (length m.list))
 answer_for m (Rank c) = number_answer (rank_answer m.list c)
 answer_for m (At p) = number_answer (at_answer m.list p)
 answer_for m (Add c) = done_answer (add_answer m.list m.count c)

@@ -1,6 +1,6 @@
 // A holder driven through a list of calls.
 ghost use Rattle.std.specs.Prelude.{◌≡◌, true, []};
-ghost use Rattle.turns.specs.Calls.{meaning, answer_for, after, answered, after_all, Answered, done_answer, number_answer};
+ghost use Rattle.turns.specs.Calls.{meaning, answer_for, after, answered, after_all, Answered};
 ghost use Rattle.turns.specs.Laws.{SameSeat, SameSeatsAnswerAlike};
 
 use holder::fault::HolderFault;
@@ -17,47 +17,14 @@ pub enum HolderCall {
     Take(u16),
 }
 
-// What it answers.
-#[derive(Clone, Copy, PartialEq, Eq, Debug)]
-pub enum HolderAnswer {
-    Done,
-    Number(u16),
-    Refused(HolderFault),
-}
+// What it answers: nothing, a number, or why it is refused.
+pub type HolderAnswer = Result<Option<u16>, HolderFault>;
 
 // A call, and the answer that is written down beside it.
 #[derive(Clone, Copy, PartialEq, Eq, Debug)]
 pub struct HolderTurn {
     pub call: HolderCall,
     pub answer: HolderAnswer,
-}
-
-// The answer of a call that answers nothing but a refusal.
-fn done(given: Result<(), HolderFault>) -> HolderAnswer
-    ensures { result ≡ done_answer given }
-{
-    match given {
-        Ok(_) => HolderAnswer::Done,
-        Err(fault) => HolderAnswer::Refused(fault),
-    }
-}
-
-// The answer of a call that answers a number.
-fn number(given: Result<u16, HolderFault>) -> HolderAnswer
-    ensures { result ≡ number_answer given }
-{
-    match given {
-        Ok(value) => HolderAnswer::Number(value),
-        Err(fault) => HolderAnswer::Refused(fault),
-    }
-}
-
-// Whether two answers are the same.
-fn same_answer(one: HolderAnswer, other: HolderAnswer) -> bool
-    ensures same { result ≡ true → one ≡ other }
-    ensures told { one ≡ other → result ≡ true }
-{
-    one == other
 }
 
 // Gives a holder one call.
@@ -68,13 +35,13 @@ pub fn answer_to<H: Holder>(holder: &mut H, call: HolderCall) -> HolderAnswer
     match call {
         HolderCall::Clear => {
             holder.clear();
-            HolderAnswer::Done
+            Ok(None)
         }
-        HolderCall::Count => HolderAnswer::Number(holder.count()),
-        HolderCall::Rank(code) => number(holder.rank(code)),
-        HolderCall::At(place) => number(holder.at(place)),
-        HolderCall::Add(code) => done(holder.add(code)),
-        HolderCall::Take(code) => done(holder.take(code)),
+        HolderCall::Count => Ok(Some(holder.count())),
+        HolderCall::Rank(code) => holder.rank(code).map(Some),
+        HolderCall::At(place) => holder.at(place).map(Some),
+        HolderCall::Add(code) => holder.add(code).map(|_| None),
+        HolderCall::Take(code) => holder.take(code).map(|_| None),
     }
 }
 
@@ -84,8 +51,8 @@ pub fn answer_all<H: Holder>(holder: &mut H, turns: &mut [HolderTurn])
     ensures left { meaning (H.giving holder.new) (H.adds holder.new) ≡ after_all H.seat (meaning [] 0) turns.old }
 {
     holder.clear();
-    for i in 0..turns.len() {
-        turns[i].answer = answer_to(holder, turns[i].call);
+    for turn in turns.iter_mut() {
+        turn.answer = answer_to(holder, turn.call);
     }
 }
 
@@ -97,9 +64,8 @@ pub fn answers_agree<H: Holder>(holder: &mut H, turns: &[HolderTurn]) -> bool
 {
     holder.clear();
     let mut agree = true;
-    for i in 0..turns.len() {
-        let answer = answer_to(holder, turns[i].call);
-        if !same_answer(answer, turns[i].answer) {
+    for turn in turns {
+        if answer_to(holder, turn.call) != turn.answer {
             agree = false;
         }
     }

@@ -1,19 +1,16 @@
-use Rattle.std.proofs.Common.{◌≡◌, ltb, sym, ap, ◌∙◌}
-use Rattle.giving.specs.Lists.{place}
-use Rattle.giving.proofs.Places.{before_without, before_inserted}
+use Rattle.std.proofs.Common.{arith}
+use Rattle.std.proofs.lemmas.Bool.Decides.{nat_tests}
+use Rattle.giving.proofs.Places.{place_le, kept_beside}
 use Rattle.giving.proofs.stands_before.Goals as goal
 
-pub returns : goal.returns
-returns c =
-    let a = c.args.one in
-    let b = c.args.other in
-    let L = c.args.list.now in
-    let e : ltb c.place_of.result c.place_of-2.result ≡ ltb (place a L) (place b L) =
-    ap (λ k. ltb k c.place_of-2.result) c.place_of.ensures.value ∙ ap (ltb (place a L)) c.place_of-2.ensures.value in
-    record {
-      value = e;
-      kept = record {
-        taken = λ d p q. before_without a b d p q L ∙ sym e;
-        put_in = λ d s p q. before_inserted a b d p q s L ∙ sym e;
-      };
-    }
+pub returns-in-Some-Some-clause-kept : goal.returns-in-Some-Some-clause-kept
+returns-in-Some-Some-clause-kept c = kept_beside c.args.one c.args.other c.args.list.now _ (grind (arith, nat_tests))
+
+pub returns-in-Some-None-clause-kept : goal.returns-in-Some-None-clause-kept
+returns-in-Some-None-clause-kept c = kept_beside c.args.one c.args.other c.args.list.now _ (grind (arith, nat_tests))
+
+pub returns-in-None-default-clause-value : goal.returns-in-None-default-clause-value
+returns-in-None-default-clause-value c = grind (arith, nat_tests, place_le c.args.other c.args.list.now)
+
+pub returns-in-None-default-clause-kept : goal.returns-in-None-default-clause-kept
+returns-in-None-default-clause-kept c = kept_beside c.args.one c.args.other c.args.list.now _ (grind (arith, nat_tests, place_le c.args.other c.args.list.now))

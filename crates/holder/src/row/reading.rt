@@ -1,6 +1,6 @@
 // What a row tells, as what the list of its codes tells.
 ghost use Rattle.std.specs.Prelude.{◌≡◌, ◌<◌, length, slice_index};
-ghost use Rattle.giving.specs.Lists.{place};
+ghost use Rattle.giving.specs.Lists.{first_place};
 ghost use Rattle.holder.specs.Rows.{row_list};
 
 use crate::row::Row;
@@ -13,11 +13,11 @@ impl Row {
         self.len
     }
 
-    // The place of a code in the row, or the row's length.
-    pub(crate) fn find(&self, code: u16) -> u16
-        ensures { result ≡ place code (row_list self.now) }
+    // The place of a code in the row, if it is there.
+    pub(crate) fn find(&self, code: u16) -> Option<u16>
+        ensures { result ≡ first_place code (row_list self.now) }
     {
-        place_of(code, &self.codes[0..self.len as usize]) as u16
+        place_of(code, &self.codes[..self.len as usize]).map(|i| i as u16)
     }
 
     pub(crate) fn get(&self, i: u16) -> u16

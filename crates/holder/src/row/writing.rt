@@ -63,7 +63,7 @@ impl Row {
         if code >= CODE_BOUND {
             return Err(HolderFault::CodeTooLarge);
         }
-        if self.find(code) < self.len {
+        if self.find(code).is_some() {
             return Err(HolderFault::AlreadyHeld);
         }
         if self.added >= ADD_BOUND {
@@ -79,10 +79,7 @@ impl Row {
         ensures list { row_list self.new ≡ without code (row_list self.old) }
         ensures count { self.new.added ≡ self.old.added }
     {
-        let i = self.find(code);
-        if i >= self.len {
-            return Err(HolderFault::NotHeld);
-        }
+        let i = self.find(code).ok_or(HolderFault::NotHeld)?;
         self.remove(i);
         Ok(())
     }

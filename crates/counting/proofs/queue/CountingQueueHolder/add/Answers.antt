@@ -1,5 +1,5 @@
 use Rattle.std.proofs.Common.{◌≡◌, ◌+◌, get_or, set, sym, refl, ap, ◌∙◌, arith, length-set, rules}
-use Rattle.giving.proofs.Places.{inserted_end}
+use Rattle.std.proofs.lemmas.List.Edits.{insert_end}
 use Rattle.counting.specs.Slots.{codes}
 use Rattle.counting.specs.Codes.{codes_pushed}
 use Rattle.counting.proofs.Kept.{kept_add}
@@ -39,6 +39,6 @@ returns c =
     let a = not_held q c.args.code (omega arith) in
     record {
       answer = search rules;
-      list = ap codes c.put.ensures ∙ codes_pushed q.arrivals.slots q.added c.args.code (omega arith) q.free ∙ sym (inserted_end (codes q.arrivals.slots) c.args.code);
+      list = ap codes c.put.ensures ∙ codes_pushed q.arrivals.slots q.added c.args.code (omega arith) q.free ∙ sym (insert_end (codes q.arrivals.slots) c.args.code);
       count = refl;
     }

@@ -1,22 +1,15 @@
-use Rattle.std.proofs.Common.{sym, refl, ap, ◌∙◌, arith, rules}
-use Rattle.std.proofs.lemmas.List.{length-take-le}
-use Rattle.std.specs.List.{remove}
+use Rattle.std.proofs.Common.{arith}
+use Rattle.std.proofs.lemmas.Grind.{common_steps}
 use Rattle.giving.proofs.Places.{times_absent, without_absent, removed_without}
 use Rattle.holder.specs.Rows.{row_list}
 use Rattle.holder.proofs.row.Row.take.Goals as goal
 
-pub returns-then-i-self : goal.returns-then-i-self
-returns-then-i-self c =
-    let r = c.args.self.now in
-    let n = length-take-le r.len r.codes (omega arith) in
-    record { answer = search rules; list = sym (without_absent c.args.code (row_list r) (times_absent c.args.code (row_list r) (omega arith))); count = refl }
+pub returns-in_err-i-clause-list : goal.returns-in_err-i-clause-list
+returns-in_err-i-clause-list c =
+    let L = row_list c.args.self.now in
+    grind (arith, common_steps, times_absent c.args.code L, without_absent c.args.code L)
 
-pub returns : goal.returns
-returns c =
-    let r = c.args.self.now in
-    let n = length-take-le r.len r.codes (omega arith) in
-    record {
-      answer = search rules;
-      list = c.remove.ensures.list ∙ ap (remove (row_list r)) c.find-i.ensures ∙ removed_without c.args.code (row_list r);
-      count = c.remove.ensures.count;
-    }
+pub returns-clause-list : goal.returns-clause-list
+returns-clause-list c =
+    let L = row_list c.args.self.now in
+    grind (arith, common_steps, removed_without c.args.code L)
