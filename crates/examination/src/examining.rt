@@ -133,6 +133,7 @@ pub fn certify_trace(
     ensures comes { Comes (examination_of bytes.now (held buffers.old)) (held buffers.old) result (held buffers.new) }
     ensures lenders { SameSlices buffers.old buffers.new }
 {
+    // Kept (no plainer): an item type is chosen by a type argument, and a trait of all that is done by item type says no less.
     if has_stamps(bytes) {
         certify_of::<Stamp>(heap, bytes, buffers)
     } else {

@@ -27,6 +27,7 @@ impl OwnBuffers {
         })
     }
 
+    // The same, lent together.
     pub fn lend(&mut self) -> Buffers<'_>
         ensures { held result ≡ three self.old.ranks.items self.old.instants.items self.old.latenesses.items }
     {
