@@ -7,6 +7,7 @@ use crate::blocks::{Change, block_len};
 use crate::slot::Slot;
 use std::mem::replace;
 
+// Kept (rule of the project): arrays of 1,024 in the struct, since a holder is fixed memory with no heap.
 #[derive(Drop)]
 pub struct Arrivals {
     slots: [Option<u16>; 1024],

@@ -10,6 +10,7 @@ use crate::slot::Slot;
 use holder::fault::HolderFault;
 use holder::holder::{ADD_BOUND, CODE_BOUND, Holder};
 
+// Kept (rule of the project): an array of 1,024 in the struct, since a holder is fixed memory with no heap.
 #[derive(Drop)]
 pub struct CountingQueue {
     arrivals: Arrivals,

@@ -8,6 +8,7 @@ pub enum Deed {
     // It takes the item that the operation of that number added.
     Take(u16),
     // It takes an item that no operation added.
+    // Kept (no plainer): the rules have it as a case of its own; as Take of an Option each of them would have two in one.
     TakeOfNone,
     // It found nothing to take.
     FoundEmpty,

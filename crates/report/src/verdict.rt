@@ -88,6 +88,7 @@ fn answered<I: Item>(
 }
 
 // What is said of an order by the strict object of that kind.
+// Kept (no plainer): one call differs from `verdict`; a closure for it, and what it promises, would be longer than both.
 pub(crate) fn verdict_by_kind<I: Item>(
     heap: Global,
     sheet: &Sheet<I>,

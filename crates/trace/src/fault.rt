@@ -52,6 +52,7 @@ pub enum CopyFault {
 
 impl EntryFault {
     // The refusal of the record at that place.
+    // Kept (no plainer): a From would see the fault alone, and the refusal needs the place too.
     pub fn refusal(&self, place: u16) -> Refusal
         ensures { result ≡ entry_refusal place self.now }
     {
@@ -93,6 +94,7 @@ impl From<WriteFault> for Refusal {
 
 impl CopyFault {
     // The refusal, or none where memory was wanting.
+    // Kept (no plainer): a From that gives an Option says less than a method that is named for what it answers.
     pub fn refusal(&self) -> Option<Refusal>
         ensures { result ≡ copy_refusal self.now }
     {
