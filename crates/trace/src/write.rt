@@ -51,7 +51,7 @@ fn put_rows<T: Row<W>, const W: usize>(out: &mut [u8], at: usize, rows: &[T])
 }
 
 // Writes the trace of a sheet's operations into the first bytes of `out`, or refuses and leaves it as it was.
-// Kept (no plainer): the kind comes as a number, since a wrong one is refused by the first of the four checks here.
+// Kept (no plainer): the kind comes as a number, since a wrong one is refused by the first of the checks here.
 pub fn write<I: Item>(
     sheet: &Sheet<I>,
     kind: u8,
