@@ -1,6 +1,5 @@
 // From the bytes of a trace to the certificate of its order.
-ghost use Rattle.std.specs.Prelude.{◌≡◌, ℕ, min, true, false, ◌⊎◌, length, IfOk, vec_len, ◌==◌};
-ghost use Rattle.sheet.specs.Sheets.{entered};
+ghost use Rattle.std.specs.Prelude.{◌≡◌, min, length, IfOk, vec_len, ◌==◌};
 ghost use Rattle.frame.specs.Kinds.{kind_number};
 ghost use Rattle.frame.specs.Orders.{order_of};
 ghost use Rattle.trace.specs.Faults.{read_refusal};

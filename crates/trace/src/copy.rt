@@ -1,6 +1,6 @@
 ghost use Rattle.std.specs.Prelude.{◌≡◌, ℕ, ◌≤◌, ◌++◌, length, take, drop, IfOk, MatchResult};
 ghost use Rattle.sheet.specs.Sheets.{entered, room, SameLoan};
-ghost use Rattle.trace.specs.Contents.{Contents, Sound, encode};
+ghost use Rattle.trace.specs.Contents.{Sound};
 ghost use Rattle.trace.specs.Reading.{reading};
 ghost use Rattle.trace.specs.Reading.Outcome.{accepted};
 ghost use Rattle.trace.specs.Answers.{held, contents_of};

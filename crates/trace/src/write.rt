@@ -1,12 +1,9 @@
 ghost use Rattle.std.specs.Prelude.{◌≡◌, ℕ, ◌+◌, ◌*◌, ◌≤◌, ◌++◌, length, take, drop, is_ok, if◌then◌else◌, OnOk};
 ghost use Rattle.std.specs.List.{flat_map, AllByRecursion};
 ghost use Rattle.sheet.specs.Sheets.{entered};
-ghost use Rattle.record.specs.Bytes.{big};
-ghost use Rattle.record.specs.Records.{encode_record};
 ghost use Rattle.frame.specs.Headers.{bytes_of_header};
 ghost use Rattle.frame.specs.Kinds.{kind_number};
-ghost use Rattle.frame.specs.Orders.{Small};
-ghost use Rattle.trace.specs.Contents.{contents, encode, AllFit};
+ghost use Rattle.trace.specs.Contents.{contents, encode};
 ghost use Rattle.trace.specs.Reading.{reading};
 ghost use Rattle.trace.specs.Reading.Outcome.{accepted};
 ghost use Rattle.trace.specs.Writing.{writing};
