@@ -90,9 +90,15 @@ fn slot_words(heap: Global, slot: &Slot) -> Result<String, AllocError> {
             latenesses,
             answer,
         } => {
-            let hash = ranks.iter().fold(OF_NOTHING, |hash, n| hash_on(hash, &n.to_be_bytes()));
-            let hash = instants.iter().fold(hash, |hash, n| hash_on(hash, &n.to_be_bytes()));
-            let hash = latenesses.iter().fold(hash, |hash, n| hash_on(hash, &n.to_be_bytes()));
+            let hash = ranks
+                .iter()
+                .fold(OF_NOTHING, |hash, n| hash_on(hash, &n.to_be_bytes()));
+            let hash = instants
+                .iter()
+                .fold(hash, |hash, n| hash_on(hash, &n.to_be_bytes()));
+            let hash = latenesses
+                .iter()
+                .fold(hash, |hash, n| hash_on(hash, &n.to_be_bytes()));
             certify_words(heap, *answer, hash)
         }
     }
@@ -146,7 +152,13 @@ fn on_trace<I: Item>(
     match kind {
         Kind::Queue => attended::<I, Queue>(heap, &sheet, Queue::new(), k, calls),
         Kind::Stack => attended::<I, Stack>(heap, &sheet, Stack::new(), k, calls),
-        Kind::CountingQueue => attended::<I, CountingQueue>(heap, &sheet, CountingQueue::new(), k, calls),
+        Kind::CountingQueue => attended::<I, CountingQueue>(
+            heap,
+            &sheet,
+            CountingQueue::new(),
+            k,
+            calls,
+        ),
     }
 }
 

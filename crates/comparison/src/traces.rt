@@ -28,7 +28,10 @@ pub(crate) fn trace_answer(heap: Global, body: &[u8]) -> Result<String, ReportFa
 
 // The hash of the records of the operations on a sheet.
 fn sheet_hash<I: Item>(sheet: &Sheet<I>) -> u64 {
-    sheet.all().iter().fold(OF_NOTHING, |hash, op| hash_on(hash, &encode(op)))
+    sheet
+        .all()
+        .iter()
+        .fold(OF_NOTHING, |hash, op| hash_on(hash, &encode(op)))
 }
 
 // What reading a trace onto the sheet is answered, and what is then on the sheet.
