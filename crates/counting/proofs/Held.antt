@@ -23,6 +23,9 @@ held_at q c slot e =
     let a = code_at s slot.number c b in
     record { slot = b; here = code_place s q.positions c slot.number q.placed b; held = a.0 }
 
+pub place_held : (q : CountingQueue) (c : ℕ) (slot : Slot) → get_or q.positions c None ≡ Some slot → (place c (codes q.arrivals.slots) ≡ upto q.arrivals.slots slot.number) × (upto q.arrivals.slots slot.number < length (codes q.arrivals.slots))
+place_held q c slot e = let h = held_at q c slot e in (h.here, h.held)
+
 -- a code that has a position is held, and one that has none is not
 pub held : (q : CountingQueue) (c : ℕ) (slot : Option Slot) (some : Bool) → slot ≡ get_or q.positions c None → some ≡ is_some slot → some ≡ true → place c (codes q.arrivals.slots) < length (codes q.arrivals.slots)
 held q c None some e i t = absurd cc

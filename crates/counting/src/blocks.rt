@@ -5,6 +5,7 @@ ghost use Rattle.counting.specs.Blocks.{block, worth, from, Changed};
 use crate::slot::Slot;
 
 // How long the block is that ends at a position: the lowest one bit of the position's number.
+#[tactic(auto, using(crate::specs::Lows::block_le), unfolding(crate::specs::Blocks::block))]
 pub(crate) fn block_len(position: u16) -> u16
     requires { 0 < position }
     ensures value { result ≡ block position }

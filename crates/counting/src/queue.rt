@@ -64,6 +64,7 @@ impl Holder for CountingQueue {
         self.arrivals.used_before(ADD_BOUND)
     }
 
+    #[tactic(auto, using(crate::proofs::Held::not_held, crate::proofs::Held::place_held))]
     fn rank(&self, code: u16) -> Result<u16, HolderFault> {
         let slot = self.position(code).ok_or(HolderFault::NotHeld)?;
         Ok(self.arrivals.used_before(slot.number))

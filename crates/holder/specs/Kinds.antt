@@ -2,7 +2,6 @@
 use Rattle.std.specs.Prelude.{ℕ, List, reverse, length}
 use Rattle.holder.specs.declared.line.Line.{Line}
 use Rattle.holder.specs.declared.queue.Front.{Front}
-use Rattle.holder.specs.declared.stack.Back.{Back}
 use Rattle.holder.specs.Rows.{row_list}
 
 -- a queue gives in the order of the row, and a new code goes to the end
@@ -18,9 +17,6 @@ queue_seat L c = length L
 -- a stack gives from the row's end, and a new code goes to the front
 abbrev pub stack_given : List ℕ → List ℕ
 stack_given L = reverse L
-
-abbrev pub stack_list : Line Back → List ℕ
-stack_list s = stack_given (row_list s.row)
 
 abbrev pub stack_seat : List ℕ → ℕ → ℕ
 stack_seat L c = 0

@@ -1,4 +1,4 @@
-// A row of codes that is given from one of its ends: what the queue and the stack share.
+// A line: a holder that gives the codes of its row from one end, and its type says from which: the queue and the stack.
 ghost use Rattle.std.specs.Prelude.{◌≡◌, ℕ, List, []};
 ghost use Rattle.holder.specs.Ends.{EndLaws};
 ghost use Rattle.holder.specs.Rows.{row_list};

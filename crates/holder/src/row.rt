@@ -1,4 +1,4 @@
-// A row of codes, in the order in which they came: what the queue and the stack share.
+// A row: codes in the order in which they came, in an array, and how many were added.
 ghost use Rattle.std.specs.Prelude.{◌≡◌, ◌≤◌, length, take};
 ghost use Rattle.giving.specs.Lists.{Once, Below};
 

@@ -65,10 +65,12 @@ mod plain {
                         None => Err(HolderFault::NotHeld),
                     }
                 }
-                HolderCall::At(place) => match self.list.get(place as usize) {
-                    Some(code) => Ok(Some(*code)),
-                    None => Err(HolderFault::NoSuchPlace),
-                },
+                HolderCall::At(place) => self
+                    .list
+                    .get(place as usize)
+                    .copied()
+                    .map(Some)
+                    .ok_or(HolderFault::NoSuchPlace),
                 HolderCall::Add(code) => self.add(code)?,
                 HolderCall::Take(code) => self.take(code),
             };
@@ -129,27 +131,27 @@ mod tests {
     use std::test::Fail;
     use turns::calls::{HolderTurn, answers_agree};
 
+    // Whether a holder answers the calls as the plain list of that seat does.
+    fn agrees<H: Holder + Drop>(mut holder: H, seat: Seat, rt: HostRuntime) -> Result<bool, Fail> {
+        let turns = turns_of(seat, rt)?;
+        Ok(answers_agree(&mut holder, &turns))
+    }
+
     #[test]
     fn queue_is_its_plain_list(rt: HostRuntime) -> Result<(), Fail> {
-        let turns = turns_of(Seat::End, rt)?;
-        let mut queue = Queue::new();
-        assert!(rt; answers_agree(&mut queue, &turns));
+        assert!(rt; agrees(Queue::new(), Seat::End, rt)?);
         Ok(())
     }
 
     #[test]
     fn stack_is_its_plain_list(rt: HostRuntime) -> Result<(), Fail> {
-        let turns = turns_of(Seat::Front, rt)?;
-        let mut stack = Stack::new();
-        assert!(rt; answers_agree(&mut stack, &turns));
+        assert!(rt; agrees(Stack::new(), Seat::Front, rt)?);
         Ok(())
     }
 
     #[test]
     fn counting_queue_is_its_plain_list(rt: HostRuntime) -> Result<(), Fail> {
-        let turns = turns_of(Seat::End, rt)?;
-        let mut counting = CountingQueue::new();
-        assert!(rt; answers_agree(&mut counting, &turns));
+        assert!(rt; agrees(CountingQueue::new(), Seat::End, rt)?);
         Ok(())
     }
 
@@ -165,9 +167,7 @@ mod tests {
     // The calls tell the seats apart: a stack does not answer as a queue.
     #[test]
     fn stack_is_no_queue(rt: HostRuntime) -> Result<(), Fail> {
-        let turns = turns_of(Seat::End, rt)?;
-        let mut stack = Stack::new();
-        assert!(rt; !answers_agree(&mut stack, &turns));
+        assert!(rt; !agrees(Stack::new(), Seat::End, rt)?);
         Ok(())
     }
 
@@ -175,9 +175,9 @@ mod tests {
     fn refused(turns: &[HolderTurn], number: u8) -> usize {
         turns
             .iter()
-            .filter(|turn| match turn.answer {
-                Ok(_) => false,
-                Err(fault) => Refusal::from(fault).number == number,
+            .filter(|turn| {
+                turn.answer
+                    .is_err_and(|fault| Refusal::from(fault).number == number)
             })
             .count()
     }

@@ -43,7 +43,7 @@ stamp_back n x e =
     let q = p.0 in
     (omega arith, p.1)
 
--- case 1, with the lane that its six bits name
+-- case 1, with the lane that its six bits name: a law for the reader, which no proof cites
 pub in_lane : (case lane rest : ℕ) (l : Lane) → case ≡ 1 → lane < 64 → Ok l ≡ lane_named lane → Ok (InLane l rest) ≡ stamp_of case lane rest
 in_lane zero lane rest l p h e = absurd (omega arith)
 in_lane (suc zero) lane rest l p h e =

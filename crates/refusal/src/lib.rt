@@ -19,7 +19,7 @@ pub enum Layer {
 
 // A refusal in plain numbers. The place is the number of a record or a step, and 0 where the layer has none;
 // the detail is what the list of refusals names for that number, and else 0.
-// Kept (no plainer): the number is what is printed and listed; in code each layer's faults are an enum of their own.
+// Kept (no plainer): number, place and detail, 0 for none, are what is printed and listed; in code each layer has a fault enum.
 #[derive(Clone, Copy, PartialEq, Eq, Debug)]
 pub struct Refusal {
     pub layer: Layer,

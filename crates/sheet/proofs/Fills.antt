@@ -1,6 +1,6 @@
 -- What the records hold past the operations entered.
-use Rattle.std.proofs.Common.{◌≡◌, ◌+◌, ◌-◌, ◌≤◌, Bool, true, false, cond, List, [], ◌∷◌, ◌++◌, length, take, drop, sym, refl, ap, ◌∙◌, arith, length-take-le, drop_at}
-use Rattle.std.proofs.lemmas.List.{take-append-drop, drop-drop, length_push}
+use Rattle.std.proofs.Common.{◌≡◌, ◌+◌, ◌-◌, ◌≤◌, List, ◌++◌, length, take, drop, sym, refl, ap, ◌∙◌, arith, length-take-le, drop_at}
+use Rattle.std.proofs.lemmas.List.{take-append-drop, drop-drop}
 use Rattle.sheet.specs.declared.operation.Operation.{Operation}
 use Rattle.sheet.specs.declared.sheet.Sheet.{Sheet}
 use Rattle.sheet.specs.Sheets.{memory, entered, filled, SameLoan}
@@ -34,8 +34,3 @@ module _ {I : Type 0} where
         room = b.room ∙ a.room;
         lender = b.lender ∙ a.lender;
       }
-
-  -- one operation more, or none
-  pub grows : (b : Bool) (os : List (Operation I)) (op : Operation I) → length os ≤ length (cond b (os ++ op ∷ []) os)
-  grows true os op = let n = length_push os op in omega arith
-  grows false os op = omega arith

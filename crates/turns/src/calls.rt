@@ -65,9 +65,7 @@ pub fn answers_agree<H: Holder>(holder: &mut H, turns: &[HolderTurn]) -> bool
     holder.clear();
     let mut agree = true;
     for turn in turns {
-        if answer_to(holder, turn.call) != turn.answer {
-            agree = false;
-        }
+        agree &= answer_to(holder, turn.call) == turn.answer;
     }
     agree
 }
