@@ -34,12 +34,7 @@ fn total_of_ranks(order: &[Step]) -> u32
     requires { length order.now ≤ 1024 }
     ensures { result ≡ sum_by (λ s. s.rank) order.now }
 {
-    // Kept (proof): a chain's `sum` of these does not know that each rank error is below 2^16, so its bound stays open.
-    let mut total = 0;
-    for step in order {
-        total += u32::from(step.rank);
-    }
-    total
+    order.iter().map(|step| step.cost()).sum()
 }
 
 // The largest rank error, and 0 where there is none.
