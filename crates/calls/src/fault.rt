@@ -27,7 +27,7 @@ pub enum DocketFault {
 
 // A refusal in plain numbers, as a run answers it: number, place and detail, and all 0 for none.
 // Kept (rule of the project): a run answers plain numbers, 0 for none.
-#[derive(Clone, Copy, PartialEq, Eq, Debug)]
+#[derive(Clone, Copy, PartialEq, Eq, Default, Debug)]
 pub struct RefusalCode {
     pub number: u8,
     pub place: u16,
@@ -69,11 +69,7 @@ impl From<Option<DocketFault>> for RefusalCode {
                 place: refusal.place,
                 detail: refusal.detail,
             },
-            None => RefusalCode {
-                number: 0,
-                place: 0,
-                detail: 0,
-            },
+            None => RefusalCode::default(),
         }
     }
 }

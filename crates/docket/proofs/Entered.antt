@@ -2,11 +2,9 @@
 use Rattle.std.proofs.Common.{◌≡◌, ℕ, zero, suc, ◌+◌, ◌<◌, false, List, [], ◌∷◌, ◌++◌, map, length, get_or, take, set, replicate, sym, refl, ap, ◌∙◌, arith}
 use Rattle.std.proofs.lemmas.List.{map-set, take_more, take_more_set, length-map}
 use Rattle.order.specs.declared.operation.Paired.{Paired}
-use Rattle.order.specs.Steps.{SeatRule, giving_after, rank_errors, lateness, adds_in}
 use Rattle.docket.specs.declared.entry.Entry.{Entry}
-use Rattle.docket.specs.declared.ledger.Ledger.{Ledger}
-use Rattle.docket.specs.Kept.{blank, entry_of, numbers_in, ranks_in}
-use Rattle.docket.specs.InStep.{paired_in, ops_of, steps_of, InStep}
+use Rattle.docket.specs.Kept.{blank, entry_of}
+use Rattle.docket.specs.InStep.{paired_in}
 
 pub all_blank : (n x : ℕ) → entry_of (replicate n blank) x ≡ blank
 all_blank zero x = refl
@@ -30,15 +28,3 @@ table_more es qs i q h l at e =
     ap (take (i + 1)) (map-set paired_in es i (fresh q))
     ∙ take_more_set (map paired_in es) i q (omega (arith, length-map es paired_in))
     ∙ ap (λ (v : List Paired). v ++ q ∷ []) e ∙ ap (λ (v : Paired). take i qs ++ v ∷ []) at ∙ sym (take_more qs i q l)
-
-pub opened : (seat : SeatRule) (L : List ℕ) (n : ℕ) (l : Ledger) → L ≡ [] → n ≡ 0 → l.placed ≡ 0 → ((x : ℕ) → (entry_of l.entries x).late ≡ 0) → (steps_of l ≡ []) × InStep seat L n l
-opened seat L n l e z p lates =
-    let s : steps_of l ≡ [] = ap (λ (v : ℕ). take v (numbers_in l.steps)) p in (
-      s,
-      record {
-        gives = e ∙ sym (ap (giving_after seat (ops_of l)) s);
-        added = z ∙ sym (ap (adds_in (ops_of l)) s);
-        lates = λ x h. lates x ∙ sym (ap (lateness seat (ops_of l) x) s);
-        errors = ap (λ (v : ℕ). take v (ranks_in l.steps)) p ∙ sym (ap (rank_errors seat (ops_of l)) s);
-      },
-    )

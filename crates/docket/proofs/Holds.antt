@@ -12,7 +12,8 @@ use Rattle.holder.specs.Answers.{add_answer}
 use Rattle.docket.specs.declared.entry.Entry.{Entry}
 use Rattle.docket.specs.Kept.{entry_of}
 use Rattle.docket.specs.Moves.{Stand, stepped, replayed}
-use Rattle.docket.proofs.Pushes.{after_times, one_if_le}
+use Rattle.order.proofs.AddUp.{after_times}
+use Rattle.order.proofs.Sizes.{added_one}
 
 add_ok : (L : List ℕ) (n x : ℕ) → x < 1024 → times x L ≡ 0 → n < 1024 → is_ok (add_answer L n x) ≡ true
 add_ok L n x h z l =
@@ -51,5 +52,5 @@ module _ (seat : SeatRule) (es : List Entry) (ops : List Paired) where
       ap (λ (e : Deed). stepped seat x e (record { list = L; many = n })) all.0.1 ∙ stepped_after seat x d L n all.0.0 z (omega arith) in
       let m : n + items_added d + adds_in ops p ≡ n + (items_added d + adds_in ops p) = omega arith in
       ap (λ (t : Stand). replayed seat es t p) s
-      ∙ replayed_held p (after_step seat x d L) (n + items_added d) all.1 (λ y. omega (arith, once y, after_times seat x d L y)) (omega (arith, one_if_le d))
+      ∙ replayed_held p (after_step seat x d L) (n + items_added d) all.1 (λ y. omega (arith, once y, after_times seat x d L y)) (omega (arith, added_one d))
       ∙ ap (λ (v : ℕ). record { list = giving_from seat ops (after_step seat x d L) p; many = v }) m

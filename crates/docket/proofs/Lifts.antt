@@ -13,7 +13,8 @@ use Rattle.docket.specs.Kept.{entry_of, numbers_in, ranks_in}
 use Rattle.docket.specs.InStep.{paired_in, ops_of, steps_of, InStep}
 use Rattle.docket.specs.Moves.{Stand, replayed, with_late, one_less, with_flag, changed_at, changed_all}
 use Rattle.docket.proofs.Books.{last_step}
-use Rattle.docket.proofs.Pushes.{ranks_push, lateness_push, held_times}
+use Rattle.order.proofs.Sizes.{held_times}
+use Rattle.docket.proofs.Pushes.{ranks_push, lateness_push}
 use Rattle.docket.proofs.Table.{keeps_one, map_keeps_one, map_keeps_all, late_down}
 use Rattle.docket.proofs.Holds.{replayed_held}
 use Rattle.docket.proofs.Ties.{long_steps, long_numbers, long_ranks, sane}
@@ -86,7 +87,7 @@ module _ (seat : SeatRule) (l u : Ledger) (x : ℕ)
           let before : (entry_of l.entries y).late ≡ lateness seat (ops_of u) y (steps_of u) + passes_over y (rank_error (operation (ops_of u) x).deed H) H =
           i.lates y yn ∙ ap (lateness seat (ops_of l) y) l_steps ∙ ap (λ (o : List Paired). lateness seat o y (steps_of u ++ x ∷ [])) (sym u_ops) ∙ lateness_push seat (ops_of u) y [] (steps_of u) x in
           let same : passes_over y (rank_error (operation (ops_of u) x).deed H) H ≡ passes_over y r L = ap (λ (v : ℕ). passes_over y v H) (sym ranks_are.1) ∙ ap (passes_over y r) (sym l_is) in
-          let one : times y (take r L) ≤ 1 = omega (arith, times_take y r L, ap (times y) l_is, held_times seat (ops_of u) y [] (steps_of u), u.once y) in
+          let one : times y (take r L) ≤ 1 = omega (arith, times_take y r L, ap (times y) l_is, held_times seat (ops_of u) y (steps_of u) [], u.once y) in
           let hit : passes_over y r L ≡ times y (take r L) = passes_times y r L one in
           let long : y < length u.entries = omega arith in
           let kept : (entry_of u.entries y).late ≡ (entry_of l.entries y).late =

@@ -3,7 +3,7 @@ use Rattle.std.specs.Option.{unwrap_or}
 use Rattle.std.specs.List.{fold, sum_by, position, position_from}
 use Rattle.std.proofs.lemmas.Iterator.Adapters.{position_from-zero}
 use Rattle.std.proofs.Common.{Some, Option, ◌≡◌, ℕ, suc, ◌+◌, ◌<◌, ◌≤◌, max, true, false, eqb, List, [], ◌∷◌, ◌++◌, map, length, get_or, take, drop, set, sym, refl, ap, ◌∙◌, ⊎_elim, arith}
-use Rattle.std.proofs.lemmas.List.{drop_more, set_at, append_assoc, length_push, length-map, length-take-le, map_more, take_all}
+use Rattle.std.proofs.lemmas.List.{drop_more, set_at, append_assoc, length_push, length-map, length-take-le, map_more}
 use Rattle.std.proofs.lemmas.Bool.{cases_lt, cases_eq, cases_Bool, eq-eqb, ne_eqb, eqb-false}
 use Rattle.order.specs.Times.{earliest_from}
 use Rattle.giving.specs.Lists.{place}
@@ -38,9 +38,6 @@ module _ {X : Type 0} (f : X → ℕ) (d : X) (xs : List X) (buffer bs : List �
   over_map_more h l was =
       over_more (map f (take i xs)) (map f (take (i + 1) xs)) buffer bs i (f (get_or xs i d)) (f (get_or xs i d))
       (length-map (take i xs) f ∙ length-take-le i xs (omega arith)) (omega arith) (map_more f xs i d h) refl was
-
-  pub over_map_all : length xs ≤ i → bs ≡ over (map f (take i xs)) buffer → bs ≡ over (map f xs) buffer
-  over_map_all h was = was ∙ ap (λ (ys : List X). over (map f ys) buffer) (take_all i xs h)
 
 -- ---- the least instants
 abbrev pub top : List Paired → ℕ → List ℕ → ℕ

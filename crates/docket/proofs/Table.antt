@@ -6,7 +6,8 @@ use Rattle.std.proofs.lemmas.Bool.{cases_eq, eq-eqb, ne_eqb, cond-true, cond-fal
 use Rattle.giving.specs.Lists.{times}
 use Rattle.order.specs.Steps.{operation}
 use Rattle.docket.specs.declared.entry.Entry.{Entry}
-use Rattle.docket.specs.Kept.{blank, entry_of}
+use Rattle.docket.specs.declared.ledger.Ledger.{Ledger}
+use Rattle.docket.specs.Kept.{blank, entry_of, numbers_in, Flagged}
 use Rattle.docket.specs.InStep.{paired_in}
 use Rattle.docket.specs.Moves.{with_late, one_more, one_less, changed_at, changed_all}
 
@@ -39,11 +40,6 @@ module _ {Y : Type 0} (F : Entry → Y) (f : Entry → Entry) (same : (e : Entry
   unfolding changed_all
   map_keeps_all [] es = refl
   map_keeps_all (c ∷ cs) es = map_keeps_all cs (changed_at f es c) ∙ map_keeps_one es c
-
-pub length_changed_all : (f : Entry → Entry) (cs : List ℕ) (es : List Entry) → length (changed_all f es cs) ≡ length es
-unfolding changed_all
-length_changed_all f [] es = refl
-length_changed_all f (c ∷ cs) es = length_changed_all f cs (changed_at f es c) ∙ length-set es c (f (entry_of es c))
 
 times_hit : (k c : ℕ) (cs : List ℕ) → k ≡ c → times k (c ∷ cs) ≡ 1 + times k cs
 times_hit k c cs e = omega (arith, cond-true {A = ℕ} (eqb k c) 1 0 (eq-eqb k c e))
@@ -87,3 +83,6 @@ late_down (c ∷ cs) es k h =
 -- moved latenesses leave the flags
 pub flag_kept : (f : ℕ → ℕ) (es fs : List Entry) (cs : List ℕ) (x : ℕ) → fs ≡ changed_all (with_late f) es cs → (entry_of fs x).placed ≡ (entry_of es x).placed
 flag_kept f es fs cs x e = ap (λ (v : List Entry). (entry_of v x).placed) e ∙ keeps_all (λ (v : Entry). v.placed) (with_late f) (λ v. refl) cs es x
+
+pub flags_kept : (f : ℕ → ℕ) (l : Ledger) (fs : List Entry) (cs : List ℕ) → fs ≡ changed_all (with_late f) l.entries cs → Flagged fs l.count (numbers_in l.steps) l.placed
+flags_kept f l fs cs e = λ x h. flag_kept f l.entries fs cs x e ∙ l.flagged x h

@@ -21,7 +21,8 @@ use Rattle.docket.specs.InStep.{paired_in, ops_of, steps_of, InStep}
 use Rattle.docket.specs.Moves.{Stand, stepped, rank_found, waits, judged, judged_rank, judged_wait, with_late, one_more, with_flag, changed_at, changed_all}
 use Rattle.docket.proofs.Books.{lowest_position, lowest_ext, unflagged, room}
 use Rattle.docket.proofs.Turns.{judged_in}
-use Rattle.docket.proofs.Pushes.{held_push, ranks_push, lateness_push, lateness_le, held_times, adds_push, adds_le}
+use Rattle.order.proofs.Sizes.{held_times, adds_le, late_le}
+use Rattle.docket.proofs.Pushes.{held_push, ranks_push, lateness_push, adds_push}
 use Rattle.docket.proofs.Table.{op_at, length_ops, keeps_one, map_keeps_one, map_keeps_all, late_up}
 use Rattle.docket.proofs.Holds.{Sane, stepped_after}
 
@@ -225,7 +226,7 @@ module _ (seat : SeatRule) (l m : Ledger) (L : List ℕ) (x r : ℕ)
     d_is = sym (ap (λ (o : Paired). o.deed) (op_is l x xn))
 
     once_held : (a : ℕ) → times a L ≤ times a (steps_of l)
-    once_held a = omega (arith, ap (times a) i.gives, held_times seat (ops_of l) a [] (steps_of l))
+    once_held a = omega (arith, ap (times a) i.gives, held_times seat (ops_of l) a (steps_of l) [])
 
     after_is : ◌≡◌ {A = Stand} (record { list = L'; many = n' }) (record { list = after_step seat x d L; many = n + items_added d })
     after_is =
@@ -244,7 +245,7 @@ module _ (seat : SeatRule) (l m : Ledger) (L : List ℕ) (x r : ℕ)
         let b : passes_over y r L ≡ times y (take r L) = passes_times y r L t in
         let e : passes_over y r L ≡ passes_over y (rank_error d (giving_after seat (ops_of l) (steps_of l))) (giving_after seat (ops_of l) (steps_of l)) =
         ap (λ (v : ℕ). passes_over y v L) r_is ∙ ap (passes_over y (rank_error d (giving_after seat (ops_of l) (steps_of l)))) i.gives in
-        let c = lateness_le seat (ops_of l) y [] (steps_of l) in
+        let c = late_le seat (ops_of l) y (steps_of l) [] in
         let k : (entry_of m.entries y).late ≡ (get_or (changed_all (with_late one_more) l.entries (take r L)) y blank).late =
         ap (λ (es : List Entry). (entry_of es y).late) es-is ∙ keeps_one (λ (v : Entry). v.late) (with_flag true) (λ v. refl) (changed_all (with_late one_more) l.entries (take r L)) x y in
         let u = late_up (take r L) l.entries y (omega arith) (omega (arith, a, t, c, long_steps l)) in

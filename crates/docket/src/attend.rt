@@ -52,9 +52,9 @@ pub fn fill<H: Holder>(docket: &mut Docket<H>, slot: &mut Slot)
             new,
             stopped,
         } => {
-            let (n, s) = docket.run(order);
-            *new = n;
-            *stopped = s;
+            let (placed, code) = docket.run(order);
+            *new = placed;
+            *stopped = code;
         }
         Slot::Lift { answer } => {
             *answer = docket.lift();
@@ -85,8 +85,8 @@ pub fn attend_all<H: Holder>(docket: &mut Docket<H>, slots: &mut [Slot])
 
 // Opens a docket on the sheet, and attends to the calls in turn, whatever they are. What the calls answer and leave is
 // an equation; the rest of the contract is the law over every list of calls.
-pub fn attend<'a, H: Holder, I: Item>(
-    sheet: &Sheet<'a, I>,
+pub fn attend<H: Holder, I: Item>(
+    sheet: &Sheet<I>,
     holder: H,
     k: u16,
     slots: &mut [Slot],

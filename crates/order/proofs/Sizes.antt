@@ -26,7 +26,7 @@ after_length seat x (Take a) L = omega (arith, length_without a L)
 after_length seat x TakeOfNone L = omega arith
 after_length seat x FoundEmpty L = omega arith
 
-added_one : (d : Deed) → items_added d ≤ 1
+pub added_one : (d : Deed) → items_added d ≤ 1
 added_one Add = omega arith
 added_one (Take a) = omega arith
 added_one TakeOfNone = omega arith
@@ -35,12 +35,12 @@ added_one FoundEmpty = omega arith
 passes_one : (a r : ℕ) (L : List ℕ) → passes_over a r L ≤ 1
 passes_one a r L = cond_both (eqb (times a (take r L)) 0) 0 1 (λ v. v ≤ 1) (λ e. omega arith) (λ e. omega arith)
 
-adds_le : (ops : List Paired) (p : List ℕ) → adds_in ops p ≤ length p
+pub adds_le : (ops : List Paired) (p : List ℕ) → adds_in ops p ≤ length p
 adds_le ops [] = omega arith
 adds_le ops (x ∷ p) = omega (arith, adds_le ops p, added_one (operation ops x).deed)
 
 module _ (seat : SeatRule) (ops : List Paired) where
-  held_times : (a : ℕ) (p L : List ℕ) → times a (giving_from seat ops L p) ≤ times a L + times a p
+  pub held_times : (a : ℕ) (p L : List ℕ) → times a (giving_from seat ops L p) ≤ times a L + times a p
   held_times a [] L = omega arith
   held_times a (x ∷ p) L = let d : Deed = (operation ops x).deed in omega (arith, held_times a p (after_step seat x d L), after_times seat x d L a)
 
@@ -48,7 +48,7 @@ module _ (seat : SeatRule) (ops : List Paired) where
   held_length [] L = omega arith
   held_length (x ∷ p) L = let d : Deed = (operation ops x).deed in omega (arith, held_length p (after_step seat x d L), after_length seat x d L)
 
-  late_le : (a : ℕ) (p L : List ℕ) → lateness_from seat ops a L p ≤ length p
+  pub late_le : (a : ℕ) (p L : List ℕ) → lateness_from seat ops a L p ≤ length p
   late_le a [] L = omega arith
   late_le a (x ∷ p) L = let d : Deed = (operation ops x).deed in omega (arith, late_le a p (after_step seat x d L), passes_one a (rank_error d L) L)
 

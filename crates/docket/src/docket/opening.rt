@@ -12,7 +12,7 @@ use sheet::sheet::Sheet;
 
 impl<H: Holder> Docket<H> {
     // A docket of the sheet's operations with the bound k and no step placed. The holder is cleared.
-    pub fn open<'a, I: Item>(sheet: &Sheet<'a, I>, mut holder: H, k: u16) -> Docket<H>
+    pub fn open<I: Item>(sheet: &Sheet<I>, mut holder: H, k: u16) -> Docket<H>
         ensures tied { Tied H.Holder result }
         ensures steps { steps_in result ≡ [] }
         ensures table { ops_in result ≡ paired_all I.Item.number (entered sheet.now) }

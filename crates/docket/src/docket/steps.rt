@@ -11,6 +11,7 @@ use crate::docket::parts::{change_latenesses, rank_of, step};
 use calls::fault::{DocketFault, RefusalCode};
 use holder::holder::Holder;
 
+// Kept (no plainer): the clauses `table` and `bound` relate the docket before and after a call, and a type's invariant knows one moment.
 impl<H: Holder> Docket<H> {
     // What placing the operation is answered: the rules in their order.
     #[tactic(auto, unfolding(crate::specs::Moves::judged))]
@@ -63,14 +64,12 @@ impl<H: Holder> Docket<H> {
         ensures table { ops_in self.new ≡ ops_in self.old }
         ensures bound { bound_in self.new ≡ bound_in self.old }
     {
-        let mut placed: u16 = 0;
-        for x in order {
-            if let Err(fault) = self.place(*x) {
-                return (placed, Some(fault));
+        for (placed, operation) in order.iter().enumerate() {
+            if let Err(fault) = self.place(*operation) {
+                return (placed as u16, Some(fault));
             }
-            placed += 1;
         }
-        (placed, None)
+        (order.len() as u16, None)
     }
 
     // Places the operations one after another until the first refusal. Answers how many were placed, and that refusal in

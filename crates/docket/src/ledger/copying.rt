@@ -15,11 +15,7 @@ use sheet::operation::{Method, Operation};
 use sheet::sheet::Sheet;
 
 // The operation of that number, paired.
-pub(crate) fn paired<'a, I: Item>(
-    sheet: &Sheet<'a, I>,
-    number: usize,
-    operation: &Operation<I>,
-) -> Paired
+pub(crate) fn paired<I: Item>(sheet: &Sheet<I>, number: usize, operation: &Operation<I>) -> Paired
     requires { slice_get (entered sheet.now) number ≡ Some operation.now }
     ensures { result ≡ paired_of I.Item.number (entered sheet.now) operation.now }
 {
@@ -40,7 +36,7 @@ pub(crate) fn paired<'a, I: Item>(
 }
 
 // A ledger of the operations of the sheet, with no step placed.
-pub(crate) fn copied<'a, I: Item>(sheet: &Sheet<'a, I>, k: u16) -> Ledger
+pub(crate) fn copied<I: Item>(sheet: &Sheet<I>, k: u16) -> Ledger
     ensures table { ops_of result ≡ paired_all I.Item.number (entered sheet.now) }
     ensures lates { (x : ℕ) → (entry_of result.entries x).late ≡ 0 }
     ensures placed { result.placed ≡ 0 }
@@ -55,6 +51,7 @@ pub(crate) fn copied<'a, I: Item>(sheet: &Sheet<'a, I>, k: u16) -> Ledger
     let mut entries = [nothing; 1024];
     let operations = sheet.all();
     for (number, operation) in operations.iter().enumerate() {
+        // Kept (proof): by index, since of a zip with `iter_mut` no proof knows an element afterwards.
         entries[number] = Entry::from(paired(sheet, number, operation));
     }
     Ledger {

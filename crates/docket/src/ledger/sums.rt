@@ -1,6 +1,7 @@
 // What the rules and a certificate read off the ledger.
-ghost use Rattle.std.specs.Prelude.{◌≡◌, ◌<◌, ◌≤◌, not, ◌&&◌, max, ◌==◌, nat_lt, length, position, IfSome};
+ghost use Rattle.std.specs.Prelude.{◌≡◌, ℕ, map, ◌<◌, ◌≤◌, not, ◌&&◌, max, ◌==◌, nat_lt, length, position, IfSome};
 ghost use Rattle.std.specs.List.{fold, sum_by};
+ghost use Rattle.std.specs.Borrow.{Bor};
 ghost use Rattle.order.specs.Times.{earliest};
 ghost use Rattle.calls.specs.Rules.{lowest, over};
 ghost use Rattle.docket.specs.Moves.{waits, not_placed};
@@ -34,12 +35,7 @@ fn total_of_ranks(order: &[Step]) -> u32
     requires { length order.now ≤ 1024 }
     ensures { result ≡ sum_by (λ s. s.rank) order.now }
 {
-    // Kept (proof): a chain's `sum` of these does not know that each rank error is below 2^16, so its bound stays open.
-    let mut total = 0;
-    for step in order {
-        total += u32::from(step.rank);
-    }
-    total
+    order.iter().map(|step| step.cost()).sum()
 }
 
 // The largest rank error, and 0 where there is none.
@@ -55,6 +51,18 @@ fn first_with_rank(order: &[Step], rank: u16) -> Option<usize>
     ensures first { result ≡ position (λ s. s.rank == rank) order.now }
 {
     order.iter().position(|step| step.rank == rank)
+}
+
+// Writes what `of` says of each item over the front of the buffer.
+fn write_over<T, F: Fn(&T) -> u16>(items: &[T], of: F, buffer: &mut [u16])
+    requires room { length items.now ≤ length buffer.old }
+    requires callable { F.IsAlwaysCallable of }
+    ensures { (f : T → ℕ) → ((x : Bor T) (r : ℕ) → F.post of x r → r ≡ f x.now) → buffer.new ≡ over (map f items.now) buffer.old }
+{
+    for (i, item) in items.iter().enumerate() {
+        // Kept (proof): by index, since of a zip with `iter_mut` no proof knows an element afterwards.
+        buffer[i] = of(item);
+    }
 }
 
 impl Ledger {
@@ -77,11 +85,7 @@ impl Ledger {
         requires { self.now.placed ≤ length buffer.old }
         ensures { buffer.new ≡ over (errors_of self.now) buffer.old }
     {
-        let order = self.order();
-        for (i, step) in order.iter().enumerate() {
-            // Kept (proof): by index, since of a zip with `iter_mut` no proof knows an element afterwards.
-            buffer[i] = step.rank;
-        }
+        write_over(self.order(), |step| step.rank, buffer);
     }
 
     // Writes the earliest instants over the front of the buffer.
@@ -104,11 +108,7 @@ impl Ledger {
         requires { self.now.count ≤ length buffer.old }
         ensures { buffer.new ≡ over (lates_of self.now) buffer.old }
     {
-        let table = self.table();
-        for (i, entry) in table.iter().enumerate() {
-            // Kept (proof): by index, since of a zip with `iter_mut` no proof knows an element afterwards.
-            buffer[i] = entry.late;
-        }
+        write_over(self.table(), |entry| entry.late, buffer);
     }
 
     // The sum of the rank errors, the largest, and the first step that has it.

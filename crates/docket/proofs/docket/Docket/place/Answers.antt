@@ -2,7 +2,7 @@ use Rattle.std.proofs.Common.{◌≡◌, true, List, take, ap, ◌∙◌, arith,
 use Rattle.std.proofs.lemmas.Result.{err_from_is_err_and}
 use Rattle.docket.specs.declared.entry.Entry.{Entry}
 use Rattle.docket.specs.Moves.{with_late, one_more, with_flag, changed_at, changed_all}
-use Rattle.docket.proofs.Table.{flag_kept}
+use Rattle.docket.proofs.Table.{flag_kept, flags_kept}
 use Rattle.docket.proofs.Turns.{judged_ok}
 use Rattle.docket.proofs.Ties.{judged_is, judged_rank_is, placed_ops, placed_in_step}
 use Rattle.docket.proofs.docket.Docket.place.Goals as goal
@@ -18,13 +18,15 @@ bounds-self-operation g c = let o = judged_ok _ _ _ _ _ _ _ c.in_ok-rank.rank c.
 pub invariant_of-self : goal.invariant_of-self
 invariant_of-self g c =
     let l = c.args.self.now.ledger in
-    ((c.change_latenesses.auto.entries ∙ l.full.0, l.full.1), (l.few, (l.known, (l.once, ((λ x h. flag_kept one_more l.entries c.change_latenesses.new.entries _ x (c.change_latenesses.ensures one_more (λ n r h. search rules)) ∙ l.flagged x h), tt)))))
+    let raised = c.change_latenesses.ensures one_more (λ n r h. search rules) in
+    ((c.change_latenesses.auto.entries ∙ l.full.0, l.full.1), (l.few, (l.known, (l.once, (flags_kept one_more l _ _ raised, tt)))))
 
 pub mark-requires : goal.mark-requires
 mark-requires g c =
     let l = c.args.self.now.ledger in
     let o = judged_ok _ _ _ _ _ _ _ c.in_ok-rank.rank c.in_ok-rank.ensures in
-    record { within = o.0; new = flag_kept one_more l.entries c.change_latenesses.new.entries _ c.args.operation (c.change_latenesses.ensures one_more (λ n r h. search rules)) ∙ o.1 }
+    let raised = c.change_latenesses.ensures one_more (λ n r h. search rules) in
+    record { within = o.0; new = flag_kept one_more l.entries c.change_latenesses.new.entries _ c.args.operation raised ∙ o.1 }
 
 pub invariant_of-self-2 : goal.invariant_of-self-2
 invariant_of-self-2 g c =
@@ -34,7 +36,8 @@ invariant_of-self-2 g c =
     let x = c.args.operation in
     let r = c.in_ok-rank.rank in
     let o = judged_ok _ _ _ _ _ _ _ r c.in_ok-rank.ensures in
-    let es : m.entries ≡ changed_at (with_flag true) (changed_all (with_late one_more) l.entries (take r L)) x = c.mark.ensures.entries ∙ ap (λ (v : List Entry). changed_at (with_flag true) v x) (c.change_latenesses.ensures one_more (λ n r h. search rules)) in
+    let raised = c.change_latenesses.ensures one_more (λ n r h. search rules) in
+    let es : m.entries ≡ changed_at (with_flag true) (changed_all (with_late one_more) l.entries (take r L)) x = c.mark.ensures.entries ∙ ap (λ (v : List Entry). changed_at (with_flag true) v x) raised in
     let e = c.mark.ensures in
     record { tied = placed_in_step g.H.Holder.seat l m L x r o.0 o.1 es e.steps e.ranks e.placed e.count _ _ _ c.args.self.now.tied (judged_rank_is _ _ _ _ _ _ _ L r o.0 o.1 c.in_ok-rank.ensures) c.step.ensures }
 
@@ -49,6 +52,7 @@ returns-clause-table g c =
     let x = c.args.operation in
     let r = c.in_ok-rank.rank in
     let o = judged_ok _ _ _ _ _ _ _ r c.in_ok-rank.ensures in
-    let es : m.entries ≡ changed_at (with_flag true) (changed_all (with_late one_more) l.entries (take r L)) x = c.mark.ensures.entries ∙ ap (λ (v : List Entry). changed_at (with_flag true) v x) (c.change_latenesses.ensures one_more (λ n r h. search rules)) in
+    let raised = c.change_latenesses.ensures one_more (λ n r h. search rules) in
+    let es : m.entries ≡ changed_at (with_flag true) (changed_all (with_late one_more) l.entries (take r L)) x = c.mark.ensures.entries ∙ ap (λ (v : List Entry). changed_at (with_flag true) v x) raised in
     let e = c.mark.ensures in
     placed_ops g.H.Holder.seat l m L x r o.0 o.1 es e.steps e.ranks e.placed e.count
