@@ -6,7 +6,7 @@ use crate::kind::Kind;
 use record::bytes::number_at;
 
 // What the header of a trace says: the kind of strict object, the number of operations and the bound k.
-#[derive(Clone, Copy)]
+#[derive(Clone, Copy, PartialEq, Eq, Debug)]
 pub struct Header {
     pub kind: Kind,
     pub count: u16,

@@ -7,7 +7,7 @@ use std::alloc::{AllocError, Global};
 
 // The order of a trace: numbers of 16 bits.
 // Kept (no plainer): no impl Model, since `new` promises the bytes themselves, from which one definition gives the numbers.
-#[derive(Clone, Copy)]
+#[derive(Clone, Copy, PartialEq, Eq, Debug)]
 pub struct Order<'a> {
     bytes: &'a [u8],
 }

@@ -3,7 +3,7 @@ ghost use Rattle.std.specs.Option.{option_map};
 ghost use Rattle.frame.specs.Layout.{record_count, record_at, records_in};
 
 // The bytes of a trace, from which it hands out its records.
-#[derive(Clone, Copy)]
+#[derive(Clone, Copy, PartialEq, Eq, Debug)]
 pub struct Trace<'a> {
     bytes: &'a [u8],
 }

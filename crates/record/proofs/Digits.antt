@@ -1,5 +1,5 @@
 -- Numbers and the bytes that say them.
-use Rattle.std.proofs.Common.{◌≡◌, ℕ, zero, suc, ◌+◌, ◌*◌, ◌/◌, ◌%◌, ◌^◌, ◌<◌, ◌≤◌, List, [], ◌∷◌, ◌++◌, length, get_or, take, drop, sym, refl, ap, ◌∙◌, pow-suc, arith, length-append, length-take-le, take_all, take_at, drop_at}
+use Rattle.std.proofs.Common.{◌≡◌, ℕ, zero, suc, ◌+◌, ◌*◌, ◌/◌, ◌%◌, ◌^◌, ◌<◌, ◌≤◌, List, [], ◌∷◌, ◌++◌, length, get_or, take, drop, Fits, w8, sym, refl, ap, ◌∙◌, pow-suc, arith, length-append, length-take-le, take_all, take_at, drop_at}
 use native.Mathlib.Nat.{pow-le-pow_right}
 use Rattle.std.proofs.lemmas.List.{take_more}
 use Rattle.std.specs.Int.Digits.{number_from_digits, number_from_digits_after}
@@ -22,6 +22,10 @@ number_big (suc w) n h =
     let l : n / 256 < 256 ^ w = let p = pow-suc 256 w in omega arith in
     let e = number_big w (n / 256) l in
     rw (number_push, e) (omega arith)
+
+-- what the type of a list of bytes says
+pub bytes_of_type : (xs : List ℕ) → ((k : ℕ) → Fits w8 (get_or xs k 0)) → Bytes xs
+bytes_of_type xs h k = omega (arith, h k)
 
 pub bytes_take : (n : ℕ) (xs : List ℕ) → Bytes xs → Bytes (take n xs)
 bytes_take zero xs h = λ k. omega arith

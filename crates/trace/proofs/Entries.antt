@@ -5,7 +5,7 @@ use mathlib.Core.Logic.{∥∥₁_elim}
 use Rattle.std.proofs.lemmas.List.{length_push}
 use Rattle.std.proofs.lemmas.Bool.{and_parts}
 use Rattle.std.proofs.lemmas.Bool.Decides.{nat_tests}
-use Rattle.std.specs.List.{AllByRecursion}
+use Rattle.std.proofs.SliceLists.{all_by_recursion_push}
 use Rattle.refusal.proofs.Checks.{pass}
 use Rattle.item.specs.declared.item.Item.{Ghosts}
 use Rattle.item.specs.Items.{Lawful}
@@ -23,10 +23,6 @@ use Rattle.trace.specs.Contents.{AllFit}
 was_ok : {A E : Type 0} (r : Result A E) → is_ok r ≡ true → (x : A) × (r ≡ Ok x)
 was_ok (Ok x) e = (x, refl)
 was_ok (Err f) e = absurd cc
-
-pub all_push : {X : Type 0} (P : X → Type 0) (xs : List X) (x : X) → AllByRecursion P xs → P x → AllByRecursion P (xs ++ x ∷ [])
-all_push P [] x a p = (p, tt)
-all_push P (y ∷ xs) x a p = (a.0, all_push P xs x a.1 p)
 
 module _ {I : Type 0} (t : Ghosts I) where
   -- each of ops fits, and a sheet that holds os takes them in turn
@@ -100,7 +96,7 @@ module _ {I : Type 0} (t : Ghosts I) where
         let n = length_push os op in (
           b.0,
           enter_there room os op (omega arith) a b.0 c.0 c.1,
-          enters_of room (os ++ op ∷ []) ops (all_push (Fit t) os op a b.0) b.1 c.2 (omega arith),
+          enters_of room (os ++ op ∷ []) ops (all_by_recursion_push (Fit t) os op a b.0) b.1 c.2 (omega arith),
         )
 
     -- that they enter, as a test

@@ -8,7 +8,7 @@ ghost use Rattle.trace.specs.Copying.{copying, Copied};
 
 use crate::fault::CopyFault;
 use crate::read::{Accepted, read};
-use crate::write::write;
+use crate::write::write_of_kind;
 use item::item::Item;
 use sheet::sheet::Sheet;
 use std::alloc::Global;
@@ -29,12 +29,6 @@ pub fn copy<'a, I: Item>(
 {
     let accepted = read(bytes, sheet)?;
     let order = accepted.order.numbers(heap)?;
-    write(
-        sheet,
-        accepted.kind.into(),
-        accepted.k,
-        order.as_slice(),
-        out,
-    )?;
+    write_of_kind(sheet, accepted.kind, accepted.k, order.as_slice(), out)?;
     Ok(accepted)
 }

@@ -63,13 +63,21 @@ impl EntryFault {
     }
 }
 
+impl From<RefusedRecord> for Refusal {
+    ghost from_gives = { λ e r. r ≡ entry_refusal e.place e.fault };
+
+    fn from(refused: RefusedRecord) -> Refusal {
+        refused.fault.refusal(refused.place)
+    }
+}
+
 impl From<ReadFault> for Refusal {
     ghost from_gives = { λ fault r. r ≡ read_refusal fault };
 
     fn from(fault: ReadFault) -> Refusal {
         match fault {
             ReadFault::Frame(fault) => Refusal::from(fault),
-            ReadFault::Entry(refused) => refused.fault.refusal(refused.place),
+            ReadFault::Entry(refused) => Refusal::from(refused),
         }
     }
 }
@@ -94,7 +102,7 @@ impl From<WriteFault> for Refusal {
 
 impl CopyFault {
     // The refusal, or none where memory was wanting.
-    // Kept (no plainer): a From that gives an Option says less than a method that is named for what it answers.
+    // Kept (no plainer): want of memory has no refusal.
     pub fn refusal(&self) -> Option<Refusal>
         ensures { result ≡ copy_refusal self.now }
     {

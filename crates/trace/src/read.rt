@@ -15,7 +15,7 @@ use record::decoding::decode;
 use sheet::sheet::Sheet;
 
 // What an accepted trace says besides its operations.
-#[derive(Clone, Copy)]
+#[derive(Clone, Copy, PartialEq, Eq, Debug)]
 pub struct Accepted<'a> {
     pub kind: Kind,
     pub k: u16,

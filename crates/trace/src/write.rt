@@ -42,9 +42,35 @@ fn put_rows<T: Row<W>, const W: usize>(out: &mut [u8], at: usize, rows: &[T])
     ensures bytes { out.new ≡ take at out.old ++ flat_map T.bytes rows.now ++ drop (at + W * length rows.now) out.old }
     ensures fit { AllByRecursion T.fit rows.now }
 {
+    // Kept (proof): chunks_exact_mut and zip ask for a W above 0, and after them no fact says which bytes were written.
     for (i, row) in rows.iter().enumerate() {
         paste(out, at + W * i, &row.row());
     }
+}
+
+// Writes the trace of a sheet's operations, of that kind, into the first bytes of `out`, or refuses and leaves it as it was.
+pub(crate) fn write_of_kind<I: Item>(
+    sheet: &Sheet<I>,
+    kind: Kind,
+    k: u16,
+    order: &[u16],
+    out: &mut [u8],
+) -> Result<(), WriteFault>
+    ensures answer { result ≡ writing (kind_number kind) (length (entered sheet.now)) (length order.now) (length out.old) }
+    ensures bytes { out.new ≡ (if is_ok result then encode I.Item (contents (kind_number kind) k (entered sheet.now) order.now) ++ drop (8 + 26 * length (entered sheet.now)) out.old else out.old) }
+    ensures reads_as_what_went_in { OnOk result ((room : ℕ) → length (entered sheet.now) ≤ room → reading I.Item room (take (8 + 26 * length (entered sheet.now)) out.new) ≡ accepted (contents (kind_number kind) k (entered sheet.now) order.now)) }
+{
+    let ops = sheet.all();
+    if order.len() != ops.len() {
+        return Err(WriteFault::OrderLength);
+    }
+    if out.len() < 8 + 26 * ops.len() {
+        return Err(WriteFault::Memory);
+    }
+    paste(out, 0, &header_bytes(I::TYPE, kind, ops.len() as u16, k));
+    put_rows::<_, 24>(out, 8, ops);
+    put_rows::<_, 2>(out, 8 + 24 * ops.len(), order);
+    Ok(())
 }
 
 // Writes the trace of a sheet's operations into the first bytes of `out`, or refuses and leaves it as it was.
@@ -60,16 +86,6 @@ pub fn write<I: Item>(
     ensures bytes { out.new ≡ (if is_ok result then encode I.Item (contents kind k (entered sheet.now) order.now) ++ drop (8 + 26 * length (entered sheet.now)) out.old else out.old) }
     ensures reads_as_what_went_in { OnOk result ((room : ℕ) → length (entered sheet.now) ≤ room → reading I.Item room (take (8 + 26 * length (entered sheet.now)) out.new) ≡ accepted (contents kind k (entered sheet.now) order.now)) }
 {
-    let ops = sheet.all();
     let kind = Kind::try_from(kind).map_err(|_| WriteFault::Kind)?;
-    if order.len() != ops.len() {
-        return Err(WriteFault::OrderLength);
-    }
-    if out.len() < 8 + 26 * ops.len() {
-        return Err(WriteFault::Memory);
-    }
-    paste(out, 0, &header_bytes(I::TYPE, kind, ops.len() as u16, k));
-    put_rows::<_, 24>(out, 8, ops);
-    put_rows::<_, 2>(out, 8 + 24 * ops.len(), order);
-    Ok(())
+    write_of_kind(sheet, kind, k, order, out)
 }

@@ -2,7 +2,7 @@ use Rattle.std.proofs.Common.{◌+◌, ◌*◌, ◌++◌, length, take, drop, Ok
 use Rattle.std.proofs.lemmas.Bool.Decides.{nat_tests}
 use Rattle.std.proofs.lemmas.Result.{err_from_is_err_and}
 use Rattle.sheet.specs.Sheets.{entered, room}
-use Rattle.frame.specs.Orders.{order_of}
+use Rattle.frame.specs.Kinds.{kind_number}
 use Rattle.trace.specs.Answers.{contents_of}
 use Rattle.trace.specs.Contents.{contents, encode}
 use Rattle.trace.specs.Reading.{reading}
@@ -19,8 +19,8 @@ returns-clause-written_reads_as_what_went_in g c =
     let long = ap length e.accepted_is_encoded ∙ length_encode g.I.Item (contents_of a os) e.accepted_is_sound.ordered in
     let items = c.as_slice.ensures.value ∙ c.in_ok-order.ensures in
     λ n h.
-    ap (λ z. reading g.I.Item n (take z c.write.new.out)) long ∙ c.in_ok-write.ensures.reads_as_what_went_in n h
-    ∙ ap (λ xs. accepted (contents c.into.result a.k os xs)) items ∙ ap (λ kind. accepted (contents kind a.k os (order_of a.order))) c.into.ensures
+    ap (λ z. reading g.I.Item n (take z c.write_of_kind.new.out)) long ∙ c.in_ok-write_of_kind.ensures.reads_as_what_went_in n h
+    ∙ ap (λ xs. accepted (contents (kind_number a.kind) a.k os xs)) items
 
 pub returns-clause-written_back_is_its_own_bytes : goal.returns-clause-written_back_is_its_own_bytes
 returns-clause-written_back_is_its_own_bytes g c =
@@ -30,23 +30,23 @@ returns-clause-written_back_is_its_own_bytes g c =
     let mem = c.args.out.now in
     let long = ap length e.accepted_is_encoded ∙ length_encode g.I.Item (contents_of a os) e.accepted_is_sound.ordered in
     let items = c.as_slice.ensures.value ∙ c.in_ok-order.ensures in
-    let same = ap (λ xs. contents c.into.result a.k os xs) items ∙ ap (λ kind. contents kind a.k os (order_of a.order)) c.into.ensures in
-    c.in_ok-write.ensures.bytes ∙ ap (λ d. encode g.I.Item d ++ drop (8 + 26 * length os) mem) same ∙ ap (λ z. z ++ drop (8 + 26 * length os) mem) (sym e.accepted_is_encoded)
+    let same = ap (λ xs. contents (kind_number a.kind) a.k os xs) items in
+    c.in_ok-write_of_kind.ensures.bytes ∙ ap (λ d. encode g.I.Item d ++ drop (8 + 26 * length os) mem) same ∙ ap (λ z. z ++ drop (8 + 26 * length os) mem) (sym e.accepted_is_encoded)
     ∙ ap (λ m. c.args.bytes.now ++ drop m mem) (sym long)
 
 pub returns-clause-answer : goal.returns-clause-answer
 returns-clause-answer g c =
     let e = c.in_ok-accepted.ensures in
     let read = accepted_of (Ok c.in_ok-accepted.accepted) (reading g.I.Item (room c.args.sheet.now) c.args.bytes.now) (entered c.args.sheet.now) (entered c.read.new.sheet) e.answer e.entered in
-    let w = c.in_ok-write.ensures.answer in
+    let w = c.in_ok-write_of_kind.ensures.answer in
     grind (arith, nat_tests)
 
-pub returns-in_err-write-clause-answer : goal.returns-in_err-write-clause-answer
-returns-in_err-write-clause-answer g c =
+pub returns-in_err-write_of_kind-clause-answer : goal.returns-in_err-write_of_kind-clause-answer
+returns-in_err-write_of_kind-clause-answer g c =
     let e = c.in_ok-accepted.ensures in
-    let p = err_from_is_err_and c.from_residual-in_err-write.result c.from_residual-in_err-write.ensures.1 in
+    let p = err_from_is_err_and c.from_residual-in_err-write_of_kind.result c.from_residual-in_err-write_of_kind.ensures.1 in
     let read = accepted_of (Ok c.in_ok-accepted.accepted) (reading g.I.Item (room c.args.sheet.now) c.args.bytes.now) (entered c.args.sheet.now) (entered c.read.new.sheet) e.answer e.entered in
-    let w = c.in_err-write.ensures.answer in
+    let w = c.in_err-write_of_kind.ensures.answer in
     rw (p.1, p.2) (grind (arith, nat_tests))
 
 pub returns-in_err-accepted-clause-answer : goal.returns-in_err-accepted-clause-answer

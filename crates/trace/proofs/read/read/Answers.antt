@@ -1,7 +1,7 @@
 use Rattle.std.proofs.Common.{◌≡◌, Ok, Result, arith, rules}
 use Rattle.std.proofs.lemmas.Grind.{common_steps}
 use Rattle.item.proofs.Laws.{lawful}
-use Rattle.record.specs.Bytes.{Bytes}
+use Rattle.record.proofs.Digits.{bytes_of_type}
 use Rattle.sheet.specs.Sheets.{entered, room}
 use Rattle.trace.specs.Answers.{shown, answered, held}
 use Rattle.trace.specs.declared.fault.ReadFault.{ReadFault}
@@ -30,7 +30,7 @@ returns g c =
     let law = lawful g.met.I.Item in
     let n = room c.args.sheet.now in
     let bs = c.args.bytes.now in
-    let bytes : Bytes c.args.bytes.now = λ i. omega (arith, c.type_inv.bytes i) in
+    let bytes = bytes_of_type c.args.bytes.now c.type_inv.bytes in
     let h = c.in_ok-header.header in
     let old = entered c.args.sheet.now in
     let os = entered c.take_all.new.sheet in

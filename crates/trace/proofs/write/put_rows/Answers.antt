@@ -1,7 +1,7 @@
 use Rattle.std.proofs.Common.{◌≡◌, ◌+◌, ◌≤◌, [], ◌∷◌, ◌++◌, length, take, sym, ap, ◌∙◌, subst, arith, take_all, rules}
 use Rattle.std.proofs.lemmas.List.{take_more}
+use Rattle.std.proofs.SliceLists.{all_by_recursion_push}
 use Rattle.std.specs.List.{AllByRecursion}
-use Rattle.trace.proofs.Entries.{all_push}
 use Rattle.trace.proofs.Writes.{laid_none, laid_more, laid_all}
 use Rattle.trace.proofs.write.put_rows.Goals as goal
 
@@ -23,7 +23,7 @@ loop-i-preserved g c =
       laid =
           laid_more g.T.Row.bytes g.row.W c.args.at c.args.out.now rows c.loop-i.out c.paste.new.out c.row.result i row inside c.loop-i-test.true
           c.index-rows-i.is c.row.ensures.bytes long v.laid c.paste.ensures;
-      fit = subst (AllByRecursion g.T.Row.fit) (sym more) (all_push g.T.Row.fit (take i rows) row v.fit c.row.ensures.fit);
+      fit = subst (AllByRecursion g.T.Row.fit) (sym more) (all_by_recursion_push g.T.Row.fit (take i rows) row v.fit c.row.ensures.fit);
     }
 
 pub returns : goal.returns

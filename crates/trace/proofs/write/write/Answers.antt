@@ -1,42 +1,11 @@
-use Rattle.std.proofs.Common.{◌≡◌, ◌+◌, ◌*◌, ◌≤◌, [], ◌++◌, length, drop, Ok, ap, ◌∙◌, subst, arith, rules}
-use mathlib.Core.Logic.{∥∥₁_map}
-use Rattle.std.proofs.lemmas.Bool.Decides.{nat_tests}
-use Rattle.item.proofs.Laws.{lawful}
-use Rattle.sheet.specs.Consistency.{Consistent}
-use Rattle.sheet.specs.Sheets.{entered}
-use Rattle.frame.specs.Headers.{bytes_of_header}
+use Rattle.std.proofs.Common.{◌≡◌, length, Ok, ap, ◌∙◌, rules}
 use Rattle.frame.specs.Kinds.{kind_named}
-use Rattle.frame.proofs.KindNumbers.{number_named, number_small}
-use Rattle.trace.specs.Contents.{contents, encode, AllFit}
-use Rattle.trace.proofs.Writes.{whole, reads_back}
+use Rattle.frame.proofs.KindNumbers.{number_named}
 use Rattle.trace.proofs.write.write.Goals as goal
 
 pub returns : goal.returns
 returns g c =
-    let t = g.I.Item in
-    let law = lawful g.met.I.Item in
-    let ops = c.all-ops.result.now in
-    let items = c.all-ops.ensures.entered in
-    let k = c.args.k in
-    let order = c.args.order.now in
-    let mem = c.args.out.now in
     let named : kind_named c.args.kind ≡ Ok c.in_ok-kind.kind = search rules in
     let number = number_named c.args.kind c.in_ok-kind.kind named in
-    let small = number_small c.in_ok-kind.kind in
-    let head = c.header_bytes.ensures ∙ ap (λ m. bytes_of_header c.TYPE.result m (length ops) k) number in
-    let n : length ops ≡ length (entered c.args.sheet.now) = ap length items in
-    let bytes =
-    whole t c.TYPE.result c.args.kind k ops order c.header_bytes.result mem c.paste.new.out c.put_rows.new.out c.put_rows-2.new.out
-    c.TYPE.ensures c.if-order-ops.false head c.paste.ensures c.put_rows.ensures.bytes c.put_rows-2.ensures.bytes
-    ∙ ap (λ z. encode t (contents c.args.kind k z order) ++ drop (8 + 26 * length z) mem) items in
-    let fits = subst (AllFit t) items c.put_rows.ensures.fit in
-    let few : length (entered c.args.sheet.now) ≤ 1024 = omega (arith, c.all-ops.ensures.few) in
-    let kind : c.args.kind ≤ 2 = omega (arith, number) in
-    let consistent = ∥∥₁_map c.all-ops.ensures.consistent (subst (Consistent []) items) in
-    record {
-      answer = grind (arith, nat_tests);
-      bytes = bytes;
-      reads_as_what_went_in =
-          reads_back t law c.args.kind k (entered c.args.sheet.now) order c.put_rows-2.new.out (drop (8 + 26 * length (entered c.args.sheet.now)) mem)
-          kind (omega arith) few (c.if-order-ops.false ∙ n) c.put_rows-2.ensures.fit fits consistent bytes;
-    }
+    let e = c.write_of_kind.ensures in
+    record { answer = rw number at e.answer; bytes = rw number at e.bytes; reads_as_what_went_in = rw number at e.reads_as_what_went_in }
