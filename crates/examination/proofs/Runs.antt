@@ -21,7 +21,7 @@ ran_whole seat ops k xs e = ran seat ops k xs (run_of seat ops k [] 0 xs) (outco
 
 module _ {X : Type 0} (m : Ghosts X) (ops : List Paired) (k : ℕ) (p : List ℕ) (b : Buffers) where
   -- a run on a docket that was opened on these operations
-  run_is : (d : Docket X m) → ops_in d ≡ ops → bound_in d ≡ k → steps_in d ≡ [] → running m d p ≡ run_of m.seat ops k [] 0 p
+  pub run_is : (d : Docket X m) → ops_in d ≡ ops → bound_in d ≡ k → steps_in d ≡ [] → running m d p ≡ run_of m.seat ops k [] 0 p
   run_is d o l s =
       ap (λ z. run_of m.seat z (bound_in d) (steps_in d) 0 p) o ∙ ap (λ z. run_of m.seat ops z (steps_in d) 0 p) l ∙ ap (λ z. run_of m.seat ops k z 0 p) s
 

@@ -14,30 +14,10 @@ use item::item::Item;
 use refusal::Refusal;
 use sheet::sheet::Sheet;
 
-// Places the order step by step on a docket with that holder, and certifies it into the buffers. Refused, it leaves the
-// buffers as they were.
-fn place_and_certify<'a, I: Item, H: Holder + Drop>(
-    sheet: &Sheet<'a, I>,
-    holder: H,
-    proposal: &Proposal,
-    buffers: &mut Buffers,
-) -> Result<Certificate, Refusal>
-    ensures answer { result ≡ order_answer H.Holder.seat (sheet_ops I.Item.number sheet.now) proposal.now.k proposal.now.order.now (held buffers.old) }
-    ensures written { held buffers.new ≡ order_written H.Holder.seat (sheet_ops I.Item.number sheet.now) proposal.now.k proposal.now.order.now (held buffers.old) }
-    ensures lenders { SameSlices buffers.old buffers.new }
-{
-    let mut docket = Docket::open(sheet, holder, proposal.k);
-    let (_, stopped) = docket.place_all(proposal.order);
-    if let Some(fault) = stopped {
-        return Err(fault.into());
-    }
-    Ok(docket.certify(buffers)?)
-}
-
 // Examines an order of the sheet's operations: with buffers long enough, a certificate is granted exactly when the order
-// is true, and else the first rule that is broken is named.
-pub fn certify_order<'a, I: Item, H: Holder + Drop>(
-    sheet: &Sheet<'a, I>,
+// is true, and else the first rule that is broken is named. Refused, it leaves the buffers as they were.
+pub fn certify_order<I: Item, H: Holder + Drop>(
+    sheet: &Sheet<I>,
     holder: H,
     proposal: &Proposal,
     buffers: &mut Buffers,
@@ -47,5 +27,10 @@ pub fn certify_order<'a, I: Item, H: Holder + Drop>(
     ensures lenders { SameSlices buffers.old buffers.new }
     ensures granted_exactly_when_true_order { is_too_short (length (sheet_ops I.Item.number sheet.now)) (held buffers.old) ≡ false → (is_ok result ≡ true → TrueOrder H.Holder.seat (sheet_ops I.Item.number sheet.now) proposal.now.k proposal.now.order.now) × (TrueOrder H.Holder.seat (sheet_ops I.Item.number sheet.now) proposal.now.k proposal.now.order.now → is_ok result ≡ true) }
 {
-    place_and_certify(sheet, holder, proposal, buffers)
+    let mut docket = Docket::open(sheet, holder, proposal.k);
+    let (_, stopped) = docket.place_all(proposal.order);
+    if let Some(fault) = stopped {
+        return Err(fault.into());
+    }
+    Ok(docket.certify(buffers)?)
 }

@@ -1,5 +1,5 @@
 // From the bytes of a trace to the certificate of its order.
-ghost use Rattle.std.specs.Prelude.{◌≡◌, min, length, IfOk, vec_len, ◌==◌};
+ghost use Rattle.std.specs.Prelude.{◌≡◌, IfOk, vec_len, ◌==◌};
 ghost use Rattle.frame.specs.Kinds.{kind_number};
 ghost use Rattle.frame.specs.Orders.{order_of};
 ghost use Rattle.trace.specs.Faults.{read_refusal};
@@ -26,7 +26,7 @@ use trace::fault::ReadFault;
 use trace::read::{Accepted, read};
 
 // Why there is no certificate.
-#[derive(Clone, Copy)]
+#[derive(Clone, Copy, PartialEq, Eq, Debug)]
 pub enum ExamineFault {
     Refused(Refusal),
     NoMemory,
@@ -77,9 +77,9 @@ pub fn has_stamps(bytes: &[u8]) -> bool
 }
 
 // Examines an accepted trace, whose operations are on the sheet.
-fn certify_accepted<'a, I: Item>(
+fn certify_accepted<I: Item>(
     heap: Global,
-    sheet: &Sheet<'a, I>,
+    sheet: &Sheet<I>,
     accepted: &Accepted,
     buffers: &mut Buffers,
 ) -> Result<Certificate, ExamineFault>
@@ -95,21 +95,6 @@ fn certify_accepted<'a, I: Item>(
     Ok(certificate)
 }
 
-// Examines a trace of that item type, over records.
-fn certify_onto<I: Item>(
-    heap: Global,
-    bytes: &[u8],
-    records: &mut [Operation<I>],
-    buffers: &mut Buffers,
-) -> Result<Certificate, ExamineFault>
-    ensures comes { Comes (examining I.Item (held buffers.old) (reading I.Item (min (length records.old) 1024) bytes.now)) (held buffers.old) result (held buffers.new) }
-    ensures lenders { SameSlices buffers.old buffers.new }
-{
-    let mut sheet = Sheet::new(records);
-    let accepted = read(bytes, &mut sheet)?;
-    certify_accepted(heap, &sheet, &accepted, buffers)
-}
-
 // Examines a trace of that item type.
 fn certify_of<I: Item>(
     heap: Global,
@@ -120,7 +105,9 @@ fn certify_of<I: Item>(
     ensures lenders { SameSlices buffers.old buffers.new }
 {
     let mut records = blank_records::<I>(heap, 1024)?;
-    certify_onto(heap, bytes, records.as_mut_slice(), buffers)
+    let mut sheet = Sheet::new(records.as_mut_slice());
+    let accepted = read(bytes, &mut sheet)?;
+    certify_accepted(heap, &sheet, &accepted, buffers)
 }
 
 // Reads a trace and certifies its order into the buffers. Refused, or for want of memory, it leaves them as they were.

@@ -19,8 +19,8 @@ use refusal::Refusal;
 use sheet::sheet::Sheet;
 
 // Examines an order of the sheet's operations with the strict object of that kind.
-pub fn certify_of_kind<'a, I: Item>(
-    sheet: &Sheet<'a, I>,
+pub fn certify_of_kind<I: Item>(
+    sheet: &Sheet<I>,
     kind: Kind,
     proposal: &Proposal,
     buffers: &mut Buffers,
@@ -37,8 +37,9 @@ pub fn certify_of_kind<'a, I: Item>(
 }
 
 // The same for the number of a kind: 0 the queue, 1 the stack, and else the queue by counting.
-pub fn certify_by_kind<'a, I: Item>(
-    sheet: &Sheet<'a, I>,
+// Kept (no plainer): every number is taken, so that none can be refused; a `Kind` goes to `certify_of_kind`.
+pub fn certify_by_kind<I: Item>(
+    sheet: &Sheet<I>,
     kind: u8,
     proposal: &Proposal,
     buffers: &mut Buffers,
