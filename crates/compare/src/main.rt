@@ -1,31 +1,39 @@
 // Reads a file of cases on standard input, and prints the answer to each on a line of its own.
 #![tactic(auto)]
 
-ghost use Rattle.std.specs.Prelude.{◌<◌, length, Some, None};
+ghost use Rattle.std.specs.Prelude.{length};
+ghost use Rattle.std.specs.Iterator.{at_most};
 
 use anyhow::anyhow;
 use comparison::case::answer_case;
-use record::bytes::number_at;
 use std::io::{Read, Write};
 
 // No file of cases is longer.
 const LIMIT: u64 = 0x400_0000;
 
-// The case at the front of the bytes, as its letter and its body, and the bytes behind it; none where no whole case stands there.
-fn next_case(bytes: &[u8]) -> Option<(u8, &[u8], &[u8])>
-    ensures { elim result [ Some c ↦ length c.2.now < length bytes.now | None ↦ Unit {0} ] }
-{
-    let letter = *bytes.first()?;
-    let length = number_at(bytes, 1, 4) as usize;
-    let (body, behind) = bytes.get(5..)?.split_at_checked(length)?;
-    Some((letter, body, behind))
+// The cases that the bytes hold, one after another, each as its letter and its body. Bytes that end within a case end
+// before that case.
+#[derive(Drop)]
+struct Cases<'a>(&'a [u8]);
+
+impl<'a> Iterator for Cases<'a> {
+    type Item = (u8, &'a [u8]);
+
+    ghost remaining = { λ cases. at_most (length cases.0.now) };
+
+    fn next(&mut self) -> Option<(u8, &'a [u8])> {
+        let (letter, rest) = self.0.split_first()?;
+        let (length, rest) = rest.split_first_chunk::<4>()?;
+        let (body, behind) = rest.split_at_checked(u32::from_be_bytes(*length) as usize)?;
+        self.0 = behind;
+        Some((*letter, body))
+    }
 }
 
 // Answers the cases that the bytes hold.
 fn answer_all(rt: &HostRuntime, bytes: &[u8]) -> anyhow::Result<()> {
     let mut out = rt.stdout();
-    let mut rest = bytes;
-    while let Some((letter, body, behind)) = next_case(rest) {
+    for (letter, body) in Cases(bytes) {
         match answer_case(rt.alloc(), letter, body) {
             Ok(text) => {
                 out.write_all(text.as_bytes())?;
@@ -33,7 +41,6 @@ fn answer_all(rt: &HostRuntime, bytes: &[u8]) -> anyhow::Result<()> {
             }
             Err(_) => return Err(anyhow!("there is not enough memory to answer a case")),
         }
-        rest = behind;
     }
     Ok(out.flush()?)
 }

@@ -1,7 +1,9 @@
 // Cases of calls on a docket.
 ghost use Rattle.std.specs.Prelude.{◌<◌, length, Some, None};
+ghost use Rattle.std.specs.Iterator.{at_most};
 
 use crate::hash::{OF_NOTHING, hash_on};
+use crate::numbers::next_number;
 use crate::words::{certify_words, number_words, run_words};
 use calls::fault::{DocketFault, RefusalCode};
 use counting::queue::CountingQueue;
@@ -20,55 +22,74 @@ use sheet::sheet::Sheet;
 use std::alloc::{AllocError, Global};
 use trace::read::read;
 
-// The call at the front of the bytes, as its own bytes, and those behind it; none where no whole call stands there.
-fn next_call(bytes: &[u8]) -> Option<(&[u8], &[u8])>
+// A slot with a run along the order that the bytes say.
+fn run_slot(heap: Global, order: &[u8]) -> Result<Slot, AllocError> {
+    Ok(Slot::Run {
+        order: Order::new(order).numbers(heap)?,
+        new: 0,
+        stopped: RefusalCode::from(None),
+    })
+}
+
+// A slot with a certify into buffers of so many entries.
+fn certify_slot(
+    heap: Global,
+    ranks: u16,
+    instants: u16,
+    latenesses: u16,
+) -> Result<Slot, AllocError> {
+    Ok(Slot::Certify {
+        ranks: vec![in heap; 0xffffu16; ranks as usize]?,
+        instants: vec![in heap; 0xffff_ffff_ffff_ffffu64; instants as usize]?,
+        latenesses: vec![in heap; 0xffffu16; latenesses as usize]?,
+        answer: Err(DocketFault::NothingToLift),
+    })
+}
+
+// A slot with the call at the front of the bytes, and the bytes behind it; none where no whole call stands there.
+fn next_slot(heap: Global, bytes: &[u8]) -> Option<(Result<Slot, AllocError>, &[u8])>
     ensures { elim result [ Some c ↦ length c.1.now < length bytes.now | None ↦ Unit {0} ] }
 {
-    let needed = match bytes.first()? {
-        0 => 3,
-        1 => 3 + 2 * number_at(bytes, 1, 2) as usize,
-        2 => 1,
-        3 => 7,
-        _ => return None,
-    };
-    bytes.split_at_checked(needed)
-}
-
-// A slot with the call that the bytes say.
-fn slot_of(heap: Global, call: &[u8]) -> Result<Slot, AllocError> {
-    let number = number_at(call, 1, 2) as u16;
-    let unanswered = DocketFault::NothingToLift;
-    match number_at(call, 0, 1) {
-        0 => Ok(Slot::Place {
-            operation: number,
-            answer: Err(unanswered),
-        }),
-        1 => Ok(Slot::Run {
-            order: Order::new(&call[3.min(call.len())..]).numbers(heap)?,
-            new: 0,
-            stopped: RefusalCode::from(None),
-        }),
-        2 => Ok(Slot::Lift {
-            answer: Err(unanswered),
-        }),
-        _ => Ok(Slot::Certify {
-            ranks: vec![in heap; 0xffffu16; number as usize]?,
-            instants: vec![in heap; 0xffff_ffff_ffff_ffffu64; number_at(call, 3, 2) as usize]?,
-            latenesses: vec![in heap; 0xffffu16; number_at(call, 5, 2) as usize]?,
-            answer: Err(unanswered),
-        }),
+    let (letter, behind) = bytes.split_first()?;
+    let answer = Err(DocketFault::NothingToLift);
+    match letter {
+        0 => {
+            let (operation, behind) = next_number(behind)?;
+            Some((Ok(Slot::Place { operation, answer }), behind))
+        }
+        1 => {
+            let (count, behind) = next_number(behind)?;
+            let (order, behind) = behind.split_at_checked(2 * count as usize)?;
+            Some((run_slot(heap, order), behind))
+        }
+        2 => Some((Ok(Slot::Lift { answer }), behind)),
+        3 => {
+            let (ranks, behind) = next_number(behind)?;
+            let (instants, behind) = next_number(behind)?;
+            let (latenesses, behind) = next_number(behind)?;
+            Some((certify_slot(heap, ranks, instants, latenesses), behind))
+        }
+        _ => None,
     }
 }
 
-// Slots with the calls that the bytes say.
-fn slots_of(heap: Global, calls: &[u8]) -> Result<Vec<Slot>, AllocError> {
-    let mut slots = Vec::new(heap);
-    let mut rest = calls;
-    while let Some((call, behind)) = next_call(rest) {
-        slots.push(slot_of(heap, call)?)?;
-        rest = behind;
+// Slots with the calls that the bytes say, one after another.
+#[derive(Drop)]
+struct Slots<'a> {
+    heap: Global,
+    calls: &'a [u8],
+}
+
+impl<'a> Iterator for Slots<'a> {
+    type Item = Result<Slot, AllocError>;
+
+    ghost remaining = { λ slots. at_most (length slots.calls.now) };
+
+    fn next(&mut self) -> Option<Result<Slot, AllocError>> {
+        let (slot, behind) = next_slot(self.heap, self.calls)?;
+        self.calls = behind;
+        Some(slot)
     }
-    Ok(slots)
 }
 
 // What a slot was answered.
@@ -119,7 +140,7 @@ fn attended<I: Item, H: Holder + Drop>(
     k: u16,
     calls: &[u8],
 ) -> Result<String, AllocError> {
-    let mut slots = slots_of(heap, calls)?;
+    let mut slots: Vec<Slot> = Slots { heap, calls }.try_collect(heap)?;
     let docket = attend(sheet, holder, k, slots.as_mut_slice());
     let mut text = String::from_str(heap, "docket ")?;
     for slot in slots.as_slice() {
@@ -166,12 +187,13 @@ fn on_trace<I: Item>(
 pub(crate) fn docket_answer(heap: Global, body: &[u8]) -> Result<Option<String>, AllocError> {
     let k = number_at(body, 1, 2) as u16;
     let length = number_at(body, 3, 4) as usize;
-    if body.len() < 7 || body.len() - 7 < length {
+    let Some(rest) = body.get(7..) else {
         return Ok(None);
-    }
+    };
+    let Some((trace, calls)) = rest.split_at_checked(length) else {
+        return Ok(None);
+    };
     let kind = Kind::try_from(body[0]).unwrap_or(Kind::CountingQueue);
-    let trace = &body[7..7 + length];
-    let calls = &body[7 + length..];
     let text = if has_stamps(trace) {
         on_trace::<item::stamp::Stamp>(heap, kind, k, trace, calls)?
     } else {

@@ -6,5 +6,6 @@ mod dockets;
 mod hash;
 mod holders;
 mod items;
+mod numbers;
 mod traces;
 mod words;

@@ -2,7 +2,6 @@
 ghost use Rattle.std.specs.Prelude.{◌≡◌};
 
 use crate::hash::{OF_NOTHING, hash_on};
-use crate::words::refusal_words;
 use examination::examining::{blank_records, has_stamps};
 use frame::order::Order;
 use item::item::Item;
@@ -46,7 +45,10 @@ fn reading_words<I: Item>(
             let k = accepted.k;
             format!(in heap; "accepted kind {kind} k {k}")?
         }
-        Err(fault) => refusal_words(heap, Refusal::from(fault))?,
+        Err(fault) => {
+            let refusal = Refusal::from(fault);
+            format!(in heap; "{refusal}")?
+        }
     };
     let count = sheet.count();
     let hash = sheet_hash(sheet);
@@ -71,11 +73,12 @@ fn readings<I: Item>(
 pub(crate) fn reading_answer(heap: Global, body: &[u8]) -> Result<Option<String>, AllocError> {
     let room = number_at(body, 0, 2) as usize;
     let length = number_at(body, 2, 4) as usize;
-    if body.len() < 6 || body.len() - 6 < length {
+    let Some(rest) = body.get(6..) else {
         return Ok(None);
-    }
-    let first = &body[6..6 + length];
-    let second = &body[6 + length..];
+    };
+    let Some((first, second)) = rest.split_at_checked(length) else {
+        return Ok(None);
+    };
     let text = if has_stamps(first) {
         readings::<item::stamp::Stamp>(heap, room, first, second)?
     } else {
@@ -124,11 +127,13 @@ pub(crate) fn writing_answer(heap: Global, body: &[u8]) -> Result<Option<String>
     let k = number_at(body, 1, 2) as u16;
     let size = number_at(body, 3, 2) as usize;
     let count = number_at(body, 5, 2) as usize;
-    if body.len() < 7 || body.len() - 7 < 2 * count {
+    let Some(rest) = body.get(7..) else {
         return Ok(None);
-    }
-    let order = Order::new(&body[7..7 + 2 * count]).numbers(heap)?;
-    let trace = &body[7 + 2 * count..];
+    };
+    let Some((order, trace)) = rest.split_at_checked(2 * count) else {
+        return Ok(None);
+    };
+    let order = Order::new(order).numbers(heap)?;
     let text = if has_stamps(trace) {
         writing::<item::stamp::Stamp>(heap, trace, body[0], k, order.as_slice(), size)?
     } else {

@@ -1,6 +1,5 @@
 // The words of the answers.
 ghost use Rattle.std.specs.Prelude.{◌≡◌, IfOk, string_bytes};
-ghost use Rattle.refusal.specs.Wording.{refusal_line};
 ghost use Rattle.comparison.specs.Words.{words_of_number, words_of_run, words_of_certify, words_of_holder, words_of_item};
 
 use calls::certificate::Certificate;
@@ -9,13 +8,6 @@ use item::fault::ItemFault;
 use refusal::Refusal;
 use std::alloc::{AllocError, Global};
 use turns::calls::HolderAnswer;
-
-// The line of a refusal, without its line feed.
-pub(crate) fn refusal_words(heap: Global, refusal: Refusal) -> Result<String, AllocError>
-    ensures { IfOk result (λ s. string_bytes s ≡ refusal_line refusal) }
-{
-    format!(in heap; "{refusal}")
-}
 
 // A number behind its word, or the refusal.
 pub(crate) fn number_words(
@@ -27,7 +19,10 @@ pub(crate) fn number_words(
 {
     match answer {
         Ok(number) => format!(in heap; "{word} {number}"),
-        Err(fault) => refusal_words(heap, Refusal::from(fault)),
+        Err(fault) => {
+            let refusal = Refusal::from(fault);
+            format!(in heap; "{refusal}")
+        }
     }
 }
 

@@ -17,7 +17,7 @@ use report::report::report_trace;
 use std::alloc::Global;
 
 // What came of an examination, as plain numbers.
-// Kept (rule of the project): callers in C read numbers, so an outcome, a layer and a refusal are numbers here.
+// Kept (no plainer): callers in C read numbers, so an outcome, a layer and a refusal are numbers here.
 #[derive(Clone, Copy, Default)]
 #[repr(C)]
 pub struct PlainOutcome {
@@ -111,20 +111,16 @@ pub extern "C" fn examiner_certify(
 
 // Lays the text that is printed of a trace over the front of the memory, where it fits, and answers how long it is; 0 where
 // there was not enough memory to make it.
+// Kept (no plainer): a caller in C reads one number, so an Option is 0 here, which no text has as its length.
 #[unsafe(no_mangle)]
 pub extern "C" fn examiner_report(heap: Global, bytes: &[u8], text: &mut [u8]) -> usize {
-    match report_trace(heap, bytes) {
-        Ok(report) => lay(report.text.as_bytes(), text),
-        Err(_) => 0,
-    }
+    report_trace(heap, bytes).map_or(0, |report| lay(report.text.as_bytes(), text))
 }
 
 // Lays the answer to a case over the front of the memory, where it fits, and answers how long it is; 0 where there was not
 // enough memory to make it.
+// Kept (no plainer): a caller in C reads one number, so an Option is 0 here, which no answer has as its length.
 #[unsafe(no_mangle)]
 pub extern "C" fn examiner_answer(heap: Global, letter: u8, body: &[u8], text: &mut [u8]) -> usize {
-    match answer_case(heap, letter, body) {
-        Ok(answer) => lay(answer.as_bytes(), text),
-        Err(_) => 0,
-    }
+    answer_case(heap, letter, body).map_or(0, |answer| lay(answer.as_bytes(), text))
 }
