@@ -23,6 +23,7 @@ held_at q c slot e =
     let a = code_at s slot.number c b in
     record { slot = b; here = code_place s q.positions c slot.number q.placed b; held = a.0 }
 
+-- the same in numbers alone, as a check can use it by itself
 pub place_held : (q : CountingQueue) (c : ℕ) (slot : Slot) → get_or q.positions c None ≡ Some slot → (place c (codes q.arrivals.slots) ≡ upto q.arrivals.slots slot.number) × (upto q.arrivals.slots slot.number < length (codes q.arrivals.slots))
 place_held q c slot e = let h = held_at q c slot e in (h.here, h.held)
 

@@ -1,6 +1,7 @@
 // The queue by counting answers as the queue does.
 ghost use Rattle.std.specs.Prelude.{◌≡◌, true, []};
-ghost use Rattle.turns.specs.Calls.{meaning, answered, after_all};
+ghost use Rattle.holder.specs.Meanings.{meaning};
+ghost use Rattle.turns.specs.Calls.{answered, after_all};
 ghost use Rattle.holder.specs.Kinds.{queue_list, queue_seat};
 ghost use Rattle.counting.specs.Slots.{codes};
 

@@ -5,6 +5,7 @@ ghost use Rattle.counting.specs.Blocks.{upto, BlockSums};
 
 use crate::blocks::{Change, block_len};
 use crate::slot::Slot;
+use holder::holder::ADD_BOUND;
 use std::mem::replace;
 
 // Kept (rule of the project): arrays of 1,024 in the struct, since a holder is fixed memory with no heap.
@@ -68,7 +69,7 @@ impl Arrivals {
     {
         let mut at: u16 = 0;
         let mut rest = rank;
-        let mut width: u16 = 1024;
+        let mut width: u16 = ADD_BOUND;
         // Kept (no plainer): the halved width is no index; a `for` over the widths has `at` and `rest` beside it just so.
         while width > 1 {
             width /= 2;

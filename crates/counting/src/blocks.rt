@@ -3,6 +3,7 @@ ghost use Rattle.std.specs.Prelude.{◌≡◌, ℕ, ◌+◌, ◌-◌, ◌<◌, �
 ghost use Rattle.counting.specs.Blocks.{block, worth, from, Changed};
 
 use crate::slot::Slot;
+use holder::holder::ADD_BOUND;
 
 // How long the block is that ends at a position: the lowest one bit of the position's number.
 #[tactic(auto, using(crate::specs::Lows::block_le), unfolding(crate::specs::Blocks::block))]
@@ -42,7 +43,7 @@ impl Change {
         let more = counted(self.after);
         let mut p = self.slot.number + 1;
         // Kept (no plainer): it goes by whole blocks, each as long as its own position says, as no range does.
-        while p <= 1024 {
+        while p <= ADD_BOUND {
             sums[p as usize] = sums[p as usize] + more - less;
             p += block_len(p);
         }

@@ -24,6 +24,7 @@ pub struct CountingQueue {
 }
 
 impl CountingQueue {
+    #[tactic(auto, using(crate::proofs::Kept::free_clear, crate::specs::Codes::codes_none))]
     pub fn new() -> CountingQueue
         ensures list { codes result.arrivals.slots ≡ [] }
         ensures count { result.added ≡ 0 }
@@ -60,6 +61,7 @@ impl Holder for CountingQueue {
           few = q.few;
         } };
 
+    #[tactic(auto, using(crate::specs::Codes::length_all))]
     fn count(&self) -> u16 {
         self.arrivals.used_before(ADD_BOUND)
     }
@@ -82,6 +84,7 @@ impl Holder for CountingQueue {
         *self = CountingQueue::new();
     }
 
+    #[tactic(auto, using(crate::proofs::Held::not_held, crate::proofs::Held::held))]
     fn add(&mut self, code: u16) -> Result<(), HolderFault> {
         if code >= CODE_BOUND {
             return Err(HolderFault::CodeTooLarge);
@@ -96,6 +99,7 @@ impl Holder for CountingQueue {
         Ok(())
     }
 
+    #[tactic(auto, using(crate::proofs::Held::not_held, crate::proofs::Held::place_held, giving::proofs::Places::times_absent, giving::proofs::Places::without_absent))]
     fn take(&mut self, code: u16) -> Result<(), HolderFault> {
         let slot = self.position(code).ok_or(HolderFault::NotHeld)?;
         self.arrivals.put(slot, None);

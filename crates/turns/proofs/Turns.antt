@@ -3,7 +3,8 @@ use Rattle.std.proofs.Common.{◌≡◌, ℕ, List, [], ◌∷◌, sym, refl}
 use Rattle.turns.specs.declared.calls.HolderCall.TheVariants.{Clear, Count, Rank, At, Add, Take}
 use Rattle.turns.specs.declared.calls.HolderCall.{HolderCall}
 use Rattle.turns.specs.declared.calls.HolderTurn.{HolderTurn}
-use Rattle.turns.specs.Calls.{Meaning, after, after_all, answered, Answered}
+use Rattle.holder.specs.Meanings.{Meaning}
+use Rattle.turns.specs.Calls.{after, after_all, answered, Answered}
 use Rattle.turns.specs.Laws.{SameSeat, SameSeatsAnswerAlike}
 
 -- the same seats: the same meaning after each call, and the same answers

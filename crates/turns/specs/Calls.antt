@@ -7,14 +7,7 @@ use Rattle.turns.specs.declared.calls.HolderCall.TheVariants.{Clear, Count, Rank
 use Rattle.turns.specs.declared.calls.HolderTurn.{HolderTurn}
 use Rattle.holder.specs.declared.fault.HolderFault.{HolderFault}
 use Rattle.holder.specs.Answers.{add_answer, rank_answer, at_answer, take_answer}
-
--- what a holder stands for: its giving list and its count of adds
-pub record Meaning : Type 0 where
-  pub list : List ℕ
-  pub count : ℕ
-
-abbrev pub meaning : List ℕ → ℕ → Meaning
-meaning L n = record { list = L; count = n }
+use Rattle.holder.specs.Meanings.{Meaning, meaning}
 
 -- the answer of a call that answers nothing but a refusal
 abbrev pub done_answer : Result (Unit {0}) HolderFault → Result (Option ℕ) HolderFault

@@ -1,7 +1,8 @@
 -- Two holders with one seat rule. Assumes nothing.
 use Rattle.std.specs.Prelude.{◌≡◌, ℕ, List}
 use Rattle.turns.specs.declared.calls.HolderTurn.{HolderTurn}
-use Rattle.turns.specs.Calls.{Meaning, answered, after_all}
+use Rattle.holder.specs.Meanings.{Meaning}
+use Rattle.turns.specs.Calls.{answered, after_all}
 
 -- two rules give every new code the same seat
 abbrev pub SameSeat : (List ℕ → ℕ → ℕ) → (List ℕ → ℕ → ℕ) → Type 0

@@ -1,6 +1,7 @@
 // A holder driven through a list of calls.
 ghost use Rattle.std.specs.Prelude.{◌≡◌, true, []};
-ghost use Rattle.turns.specs.Calls.{meaning, answer_for, after, answered, after_all, Answered};
+ghost use Rattle.holder.specs.Meanings.{meaning};
+ghost use Rattle.turns.specs.Calls.{answer_for, after, answered, after_all, Answered};
 ghost use Rattle.turns.specs.Laws.{SameSeat, SameSeatsAnswerAlike};
 
 use holder::fault::HolderFault;

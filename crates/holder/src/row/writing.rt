@@ -55,6 +55,7 @@ impl Row {
     }
 
     // Adds a code at the end of the row, or says why not.
+    #[tactic(auto, using(giving::proofs::Places::times_absent))]
     pub(crate) fn add(&mut self, code: u16) -> Result<(), HolderFault>
         ensures answer { result ≡ add_answer (row_list self.old) self.old.added code }
         ensures list { row_list self.new ≡ (if is_ok result then row_list self.old ++ code ∷ [] else row_list self.old) }
@@ -74,6 +75,7 @@ impl Row {
     }
 
     // Takes a code out of the row, or says that it is not held.
+    #[tactic(auto, using(giving::proofs::Places::times_absent, giving::proofs::Places::without_absent, giving::proofs::Places::removed_without))]
     pub(crate) fn take(&mut self, code: u16) -> Result<(), HolderFault>
         ensures answer { result ≡ take_answer (row_list self.old) code }
         ensures list { row_list self.new ≡ without code (row_list self.old) }

@@ -1,5 +1,6 @@
 use Rattle.std.proofs.Common.{[], sym, ap, ◌∙◌, subst}
-use Rattle.turns.specs.Calls.{meaning, answered, after_all, Answered}
+use Rattle.holder.specs.Meanings.{meaning}
+use Rattle.turns.specs.Calls.{answered, after_all, Answered}
 use Rattle.turns.proofs.Turns.{alike, written, rewritten, answered_twice, left_twice}
 use Rattle.turns.proofs.calls.answer_alike.Goals as goal
 

@@ -1,5 +1,6 @@
 use Rattle.std.proofs.Common.{◌≡◌, [], ◌++◌, take, drop}
-use Rattle.turns.specs.Calls.{Meaning, meaning, answered, after_all}
+use Rattle.holder.specs.Meanings.{Meaning, meaning}
+use Rattle.turns.specs.Calls.{answered, after_all}
 use Rattle.turns.proofs.calls.answer_all.Given as goal
 
 -- what is left to answer completes the whole

@@ -1,5 +1,6 @@
 use Rattle.std.proofs.Common.{◌≡◌, true, [], drop}
-use Rattle.turns.specs.Calls.{Meaning, meaning, after_all, Answered}
+use Rattle.holder.specs.Meanings.{Meaning, meaning}
+use Rattle.turns.specs.Calls.{after_all, Answered}
 use Rattle.turns.proofs.calls.answers_agree.Given as goal
 
 -- `agree` says whether the answers so far were right

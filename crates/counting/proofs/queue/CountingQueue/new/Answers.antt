@@ -1,5 +1,4 @@
 use Rattle.std.proofs.Common.{None, replicate}
-use Rattle.counting.specs.Codes.{codes_none}
 use Rattle.counting.proofs.Kept.{free_clear, placed_clear, back_clear}
 use Rattle.counting.proofs.queue.CountingQueue.new.Goals as goal
 
@@ -11,6 +10,3 @@ invariant_of-result-clause-placed c = placed_clear c.new.result.slots (replicate
 
 pub invariant_of-result-clause-back : goal.invariant_of-result-clause-back
 invariant_of-result-clause-back c = back_clear c.new.result.slots
-
-pub returns-clause-list : goal.returns-clause-list
-returns-clause-list c = codes_none c.new.result.slots (free_clear c.new.result.slots c.new.ensures)

@@ -1,27 +1,15 @@
-use Rattle.std.proofs.Common.{◌≡◌, None, get_or, sym, ap, ◌∙◌, arith, length-set, rules}
+use Rattle.std.proofs.Common.{◌≡◌, None, get_or, sym, ap, ◌∙◌, arith, length-set}
 use Rattle.std.proofs.lemmas.List.Edits.{insert_end}
 use Rattle.counting.specs.Slots.{codes}
 use Rattle.counting.specs.Codes.{codes_pushed}
 use Rattle.counting.proofs.Kept.{kept_add}
-use Rattle.counting.proofs.Held.{held, not_held, no_position, no_slot, slot_number}
+use Rattle.counting.proofs.Held.{no_position, slot_number}
 use Rattle.counting.proofs.queue.CountingQueueHolder.add.Goals as goal
 use Rattle.counting.proofs.queue.CountingQueueHolder.add.Goals.{After-new}
-
-pub returns-then-is_some-clause-answer : goal.returns-then-is_some-clause-answer
-returns-then-is_some-clause-answer c =
-    let h = held c.args.self.now c.args.code c.position.result c.is_some.result c.position.ensures c.is_some.ensures c.if-is_some.true in
-    search rules
 
 -- the code has no position
 free : (c : After-new) → get_or c.args.self.now.positions c.args.code None ≡ None
 free c = no_position c.args.self.now c.args.code c.position.result c.is_some.result c.position.ensures c.is_some.ensures c.if-is_some.false
-
-pub returns-in_err-slot-clause-answer : goal.returns-in_err-slot-clause-answer
-returns-in_err-slot-clause-answer c =
-    let q = c.args.self.now in
-    let a = not_held q c.args.code (free (goal.at.returns-in_err-slot-clause-answer c).After-new) in
-    let few = no_slot q.added c.new.result c.new.ensures c.in_err-slot.ensures.ok_part in
-    search rules
 
 pub invariant_of-self : goal.invariant_of-self
 invariant_of-self c =
@@ -37,11 +25,6 @@ invariant_of-self c =
       placed = kept.1;
       back = kept.2;
     }
-
-pub returns-clause-answer : goal.returns-clause-answer
-returns-clause-answer c =
-    let a = not_held c.args.self.now c.args.code (free (goal.at.returns-clause-answer c).After-new) in
-    search rules
 
 pub returns-clause-list : goal.returns-clause-list
 returns-clause-list c =

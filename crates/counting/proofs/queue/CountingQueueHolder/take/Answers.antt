@@ -1,19 +1,9 @@
 use Rattle.std.proofs.Common.{◌≡◌, Some, None, get_or, sym, ap, ◌∙◌, arith, length-set, rules}
-use Rattle.giving.proofs.Places.{without_absent}
-use Rattle.counting.specs.Slots.{codes, number_of}
-use Rattle.counting.specs.Codes.{codes_absent, codes_without, within}
+use Rattle.counting.specs.Slots.{codes}
+use Rattle.counting.specs.Codes.{codes_without, within}
 use Rattle.counting.proofs.Kept.{kept_take}
-use Rattle.counting.proofs.Held.{held_at, not_held}
+use Rattle.counting.proofs.Held.{held_at}
 use Rattle.counting.proofs.queue.CountingQueueHolder.take.Goals as goal
-
-pub returns-in_err-slot-clause-answer : goal.returns-in_err-slot-clause-answer
-returns-in_err-slot-clause-answer c = let a = not_held c.args.self.now c.args.code (sym c.position.ensures ∙ c.in_err-slot.ensures.ok_part) in search rules
-
-pub returns-in_err-slot-clause-list : goal.returns-in_err-slot-clause-list
-returns-in_err-slot-clause-list c =
-    let q = c.args.self.now in
-    let free = sym c.position.ensures ∙ c.in_err-slot.ensures.ok_part in
-    sym (without_absent c.args.code (codes q.arrivals.slots) (codes_absent q.arrivals.slots q.positions c.args.code q.placed (ap number_of free)))
 
 pub invariant_of-self : goal.invariant_of-self
 invariant_of-self c =
