@@ -177,18 +177,18 @@ mod tests {
     fn full(k: u16, rt: HostRuntime) -> Result<(Option<RefusalCode>, Option<Certificate>), Fail> {
         let mut memory = [six()[0]; 1024];
         let mut sheet = Sheet::new(&mut memory);
-        let mut order = Vec::new(rt.alloc());
         for i in 0..1023u16 {
-            let item = Ticket { number: i as u32 };
+            let item = Ticket {
+                number: u32::from(i),
+            };
             if sheet.enter(during(Method::Add(item), 0, 0)).is_err() {
                 return Err(Fail::new("an add was not entered"));
             }
-            order.push(i)?;
         }
         if sheet.enter(during(Method::FoundEmpty, 0, 0)).is_err() {
             return Err(Fail::new("the found-empty was not entered"));
         }
-        order.push(1023)?;
+        let order: Vec<u16> = (0..1024u16).collect(rt.alloc())?;
         let mut slots = examination(&order, rt)?;
         let docket = attend(&sheet, Queue::new(), k, &mut slots);
         drop(docket);
