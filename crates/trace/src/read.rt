@@ -23,6 +23,7 @@ pub struct Accepted<'a> {
 }
 
 // Enters the operation that a record says.
+// Kept (no plainer): SameLoan relates a sheet before and after, which no type can hold.
 fn take_record<I: Item>(rec: &[u8], sheet: &mut Sheet<I>) -> Result<(), EntryFault>
     ensures step { (i : ℕ) → after (entered sheet.old) i (taken I.Item (room sheet.old) (entered sheet.old) rec.now) ≡ left_at i result (entered sheet.new) }
     ensures grows { length (entered sheet.old) ≤ length (entered sheet.new) }
