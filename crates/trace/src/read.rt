@@ -8,6 +8,7 @@ ghost use Rattle.trace.specs.Answers.{answered, held, left_at, left_by, shown, s
 use crate::fault::{EntryFault, ReadFault, RefusedRecord};
 use frame::header::read_header;
 use frame::kind::Kind;
+use frame::layout::{HEADER_LEN, RECORD_LEN};
 use frame::order::Order;
 use frame::records::Trace;
 use item::item::Item;
@@ -60,7 +61,7 @@ pub fn read<'a, I: Item>(bytes: &'a [u8], sheet: &mut Sheet<I>) -> Result<Accept
     let header = read_header(bytes, I::TYPE)?;
     sheet.clear();
     take_all(&Trace::new(bytes), sheet)?;
-    let from = 8 + 24 * usize::from(header.count);
+    let from = HEADER_LEN + RECORD_LEN * usize::from(header.count);
     Ok(Accepted {
         kind: header.kind,
         k: header.k,
