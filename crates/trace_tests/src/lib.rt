@@ -97,7 +97,10 @@ mod tests {
     #[test]
     fn times_at_the_top(rt: HostRuntime) {
         assert_eq!(rt; ticket_refusal(&TOP), None);
-        assert_eq!(rt; ticket_refusal(&with_byte(TOP, 31, 0xfe)), refused(Layer::Sheet, 21, 0));
+        assert_eq!(rt;
+            ticket_refusal(&with_byte(TOP, 31, 0xfe)),
+            refused(Layer::Sheet, 21, 0)
+        );
     }
 
     #[test]
