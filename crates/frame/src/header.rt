@@ -3,6 +3,7 @@ ghost use Rattle.frame.specs.Headers.{frame_of};
 
 use crate::fault::FrameFault;
 use crate::kind::Kind;
+use crate::layout::{HEADER_LEN, OPERATION_LEN};
 use record::bytes::number_at;
 
 // What the header of a trace says: the kind of strict object, the number of operations and the bound k.
@@ -18,7 +19,7 @@ pub fn read_header(bytes: &[u8], item_type: u8) -> Result<Header, FrameFault>
     ensures answer { result ≡ frame_of item_type bytes.now }
     ensures long { IfOk result (λ h. length bytes.now ≡ 8 + 26 * h.count) }
 {
-    if bytes.len() < 8 {
+    if bytes.len() < HEADER_LEN {
         return Err(FrameFault::Short);
     }
     let word = number_at(bytes, 0, 2);
@@ -38,7 +39,7 @@ pub fn read_header(bytes: &[u8], item_type: u8) -> Result<Header, FrameFault>
     if count > 1024 {
         return Err(FrameFault::Count);
     }
-    if bytes.len() as u64 != 8 + 26 * count {
+    if bytes.len() != HEADER_LEN + OPERATION_LEN * count as usize {
         return Err(FrameFault::Length);
     }
     Ok(Header {

@@ -4,5 +4,6 @@
 pub mod fault;
 pub mod header;
 pub mod kind;
+pub mod layout;
 pub mod order;
 pub mod records;

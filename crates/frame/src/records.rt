@@ -2,6 +2,8 @@ ghost use Rattle.std.specs.Prelude.{◌≡◌, if◌then◌else◌, Some, None, 
 ghost use Rattle.std.specs.Option.{option_map};
 ghost use Rattle.frame.specs.Layout.{record_count, record_at, records_in};
 
+use crate::layout::{HEADER_LEN, OPERATION_LEN, RECORD_LEN};
+
 // The bytes of a trace, from which it hands out its records.
 #[derive(Clone, Copy, PartialEq, Eq, Debug)]
 pub struct Trace<'a> {
@@ -19,14 +21,14 @@ impl<'a> Trace<'a> {
     pub fn count(&self) -> usize
         ensures { result ≡ record_count self.now.bytes.now }
     {
-        self.bytes.len().saturating_sub(8) / 26
+        self.bytes.len().saturating_sub(HEADER_LEN) / OPERATION_LEN
     }
 
     // The bytes of each record in turn, a part of the trace.
-    pub fn records(&self) -> &'a [[u8; 24]]
+    pub fn records(&self) -> &'a [[u8; RECORD_LEN]]
         ensures { result.now ≡ records_in self.now.bytes.now }
     {
-        let body = &self.bytes[self.bytes.len().min(8)..];
+        let body = &self.bytes[self.bytes.len().min(HEADER_LEN)..];
         &body.as_chunks().0[..self.count()]
     }
 
@@ -38,7 +40,7 @@ impl<'a> Trace<'a> {
         if i >= self.count() {
             return None;
         }
-        let start = 8 + 24 * i;
-        Some(&self.bytes[start..start + 24])
+        let start = HEADER_LEN + RECORD_LEN * i;
+        Some(&self.bytes[start..start + RECORD_LEN])
     }
 }

@@ -8,6 +8,7 @@ ghost use Rattle.trace.specs.Answers.{answered, held, left_at, left_by, shown, s
 use crate::fault::{EntryFault, ReadFault, RefusedRecord};
 use frame::header::read_header;
 use frame::kind::Kind;
+use frame::layout::{HEADER_LEN, RECORD_LEN};
 use frame::order::Order;
 use frame::records::Trace;
 use item::item::Item;
@@ -23,6 +24,7 @@ pub struct Accepted<'a> {
 }
 
 // Enters the operation that a record says.
+// Kept (no plainer): SameLoan relates a sheet before and after, which no type can hold.
 fn take_record<I: Item>(rec: &[u8], sheet: &mut Sheet<I>) -> Result<(), EntryFault>
     ensures step { (i : ℕ) → after (entered sheet.old) i (taken I.Item (room sheet.old) (entered sheet.old) rec.now) ≡ left_at i result (entered sheet.new) }
     ensures grows { length (entered sheet.old) ≤ length (entered sheet.new) }
@@ -59,7 +61,7 @@ pub fn read<'a, I: Item>(bytes: &'a [u8], sheet: &mut Sheet<I>) -> Result<Accept
     let header = read_header(bytes, I::TYPE)?;
     sheet.clear();
     take_all(&Trace::new(bytes), sheet)?;
-    let from = 8 + 24 * usize::from(header.count);
+    let from = HEADER_LEN + RECORD_LEN * usize::from(header.count);
     Ok(Accepted {
         kind: header.kind,
         k: header.k,

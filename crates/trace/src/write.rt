@@ -11,11 +11,12 @@ ghost use Rattle.trace.specs.Writing.{writing};
 use crate::fault::WriteFault;
 use crate::row::Row;
 use frame::kind::Kind;
+use frame::layout::{HEADER_LEN, OPERATION_LEN, RECORD_LEN};
 use item::item::Item;
 use sheet::sheet::Sheet;
 
 // The bytes of a header.
-type HeaderBytes = [u8; 8];
+type HeaderBytes = [u8; HEADER_LEN];
 
 // The 8 bytes of a header.
 fn header_bytes(item_type: u8, kind: Kind, count: u16, k: u16) -> HeaderBytes
@@ -64,12 +65,12 @@ pub(crate) fn write_of_kind<I: Item>(
     if order.len() != ops.len() {
         return Err(WriteFault::OrderLength);
     }
-    if out.len() < 8 + 26 * ops.len() {
+    if out.len() < HEADER_LEN + OPERATION_LEN * ops.len() {
         return Err(WriteFault::Memory);
     }
     paste(out, 0, &header_bytes(I::TYPE, kind, ops.len() as u16, k));
-    put_rows::<_, 24>(out, 8, ops);
-    put_rows::<_, 2>(out, 8 + 24 * ops.len(), order);
+    put_rows::<_, RECORD_LEN>(out, HEADER_LEN, ops);
+    put_rows::<_, 2>(out, HEADER_LEN + RECORD_LEN * ops.len(), order);
     Ok(())
 }
 

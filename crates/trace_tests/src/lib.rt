@@ -16,19 +16,32 @@ mod tests {
     use trace::read::read;
     use trace::write::write;
 
-    fn refused(layer: Layer, number: u8, place: u16, detail: u16) -> Option<Refusal> {
+    // A refusal with no detail.
+    fn refused(layer: Layer, number: u8, place: u16) -> Option<Refusal> {
         Some(Refusal {
             layer,
             number,
             place,
-            detail,
+            detail: 0,
         })
+    }
+
+    // The bytes with one of them changed.
+    fn with_byte<const N: usize>(mut bytes: [u8; N], at: usize, to: u8) -> [u8; N] {
+        if let Some(byte) = bytes.get_mut(at) {
+            *byte = to;
+        }
+        bytes
+    }
+
+    // The refusal of a trace of tickets, with that memory for its operations.
+    fn refusal_within(bytes: &[u8], memory: &mut [Operation<Ticket>]) -> Option<Refusal> {
+        refusal_of::<Ticket>(bytes, &mut Sheet::new(memory))
     }
 
     // The refusal of a trace of tickets, with memory for two operations.
     fn ticket_refusal(bytes: &[u8]) -> Option<Refusal> {
-        let mut memory = [add(0); 2];
-        refusal_of::<Ticket>(bytes, &mut Sheet::new(&mut memory))
+        refusal_within(bytes, &mut [add(0); 2])
     }
 
     // The refusal of the trace of one add, a stamp with those two upper bits of case and six of lane.
@@ -48,11 +61,7 @@ mod tests {
 
     // The refusal of the trace of one add, with one byte changed.
     fn changed(at: usize, to: u8) -> Option<Refusal> {
-        let mut bytes = ONE;
-        if let Some(byte) = bytes.get_mut(at) {
-            *byte = to;
-        }
-        ticket_refusal(&bytes)
+        ticket_refusal(&with_byte(ONE, at, to))
     }
 
     // The number of the refusal of writing tickets with that kind, k 1 and that order.
@@ -64,44 +73,45 @@ mod tests {
     #[test]
     fn headers(rt: HostRuntime) {
         assert_eq!(rt; ticket_refusal(&ONE), None);
-        assert_eq!(rt; ticket_refusal(&ONE[0..7]), refused(Layer::Frame, 1, 0, 0));
-        assert_eq!(rt; changed(0, 0x20), refused(Layer::Frame, 2, 0, 0));
-        assert_eq!(rt; changed(0, 0x13), refused(Layer::Frame, 3, 0, 0));
-        assert_eq!(rt; changed(1, 0x20), refused(Layer::Frame, 4, 0, 0));
-        assert_eq!(rt; changed(1, 0x01), refused(Layer::Frame, 5, 0, 0));
-        assert_eq!(rt; changed(7, 0x01), refused(Layer::Frame, 5, 0, 0));
-        assert_eq!(rt; changed(2, 0x05), refused(Layer::Frame, 6, 0, 0));
-        assert_eq!(rt; ticket_refusal(&ONE[0..33]), refused(Layer::Frame, 7, 0, 0));
+        assert_eq!(rt; ticket_refusal(&ONE[0..7]), refused(Layer::Frame, 1, 0));
+        assert_eq!(rt; changed(0, 0x20), refused(Layer::Frame, 2, 0));
+        assert_eq!(rt; changed(0, 0x13), refused(Layer::Frame, 3, 0));
+        assert_eq!(rt; changed(1, 0x20), refused(Layer::Frame, 4, 0));
+        assert_eq!(rt; changed(1, 0x01), refused(Layer::Frame, 5, 0));
+        assert_eq!(rt; changed(7, 0x01), refused(Layer::Frame, 5, 0));
+        assert_eq!(rt; changed(2, 0x05), refused(Layer::Frame, 6, 0));
+        assert_eq!(rt; ticket_refusal(&ONE[0..33]), refused(Layer::Frame, 7, 0));
         assert_eq!(rt; ticket_refusal(&[0x12, 0, 0, 0, 0xff, 0xff, 0, 0]), None);
     }
 
     #[test]
     fn records(rt: HostRuntime) {
-        assert_eq!(rt; changed(8, 0xc0), refused(Layer::Record, 10, 0, 0));
-        assert_eq!(rt; changed(8, 0x01), refused(Layer::Record, 11, 0, 0));
-        assert_eq!(rt; changed(9, 0x01), refused(Layer::Item, 12, 0, 0));
-        assert_eq!(rt; changed(8, 0x80), refused(Layer::Record, 13, 0, 0));
-        assert_eq!(rt; changed(31, 0x00), refused(Layer::Sheet, 21, 0, 0));
+        assert_eq!(rt; changed(8, 0xc0), refused(Layer::Record, 10, 0));
+        assert_eq!(rt; changed(8, 0x01), refused(Layer::Record, 11, 0));
+        assert_eq!(rt; changed(9, 0x01), refused(Layer::Item, 12, 0));
+        assert_eq!(rt; changed(8, 0x80), refused(Layer::Record, 13, 0));
+        assert_eq!(rt; changed(31, 0x00), refused(Layer::Sheet, 21, 0));
         assert_eq!(rt; changed(31, 0x01), None);
     }
 
     #[test]
     fn times_at_the_top(rt: HostRuntime) {
         assert_eq!(rt; ticket_refusal(&TOP), None);
-        let mut bytes = TOP;
-        bytes[31] = 0xfe;
-        assert_eq!(rt; ticket_refusal(&bytes), refused(Layer::Sheet, 21, 0, 0));
+        assert_eq!(rt;
+            ticket_refusal(&with_byte(TOP, 31, 0xfe)),
+            refused(Layer::Sheet, 21, 0)
+        );
     }
 
     #[test]
     fn stamps(rt: HostRuntime) {
         assert_eq!(rt; stamp_refusal(0x00), None);
         assert_eq!(rt; stamp_refusal(0x7f), None);
-        assert_eq!(rt; stamp_refusal(0x01), refused(Layer::Item, 12, 0, 0));
-        assert_eq!(rt; stamp_refusal(0x80), refused(Layer::Item, 12, 0, 0));
+        assert_eq!(rt; stamp_refusal(0x01), refused(Layer::Item, 12, 0));
+        assert_eq!(rt; stamp_refusal(0x80), refused(Layer::Item, 12, 0));
         assert_eq!(rt;
             Lane::try_from(64).err().map(|fault| fault.refusal(0)),
-            refused(Layer::Item, 12, 0, 0)
+            refused(Layer::Item, 12, 0)
         );
     }
 
@@ -109,17 +119,16 @@ mod tests {
     fn twice_and_too_many(rt: HostRuntime) {
         let mut bytes = TWO;
         assert_eq!(rt; ticket_refusal(&bytes), None);
-        let mut memory = [add(0); 1];
         assert_eq!(rt;
-            refusal_of::<Ticket>(&bytes, &mut Sheet::new(&mut memory)),
-            refused(Layer::Sheet, 20, 1, 0)
+            refusal_within(&bytes, &mut [add(0); 1]),
+            refused(Layer::Sheet, 20, 1)
         );
         bytes[37] = 7;
-        assert_eq!(rt; ticket_refusal(&bytes), refused(Layer::Sheet, 22, 1, 0));
+        assert_eq!(rt; ticket_refusal(&bytes), refused(Layer::Sheet, 22, 1));
         bytes[8] = 0x40;
         assert_eq!(rt; ticket_refusal(&bytes), None);
         bytes[32] = 0x40;
-        assert_eq!(rt; ticket_refusal(&bytes), refused(Layer::Sheet, 23, 1, 0));
+        assert_eq!(rt; ticket_refusal(&bytes), refused(Layer::Sheet, 23, 1));
     }
 
     #[test]
@@ -161,26 +170,20 @@ mod tests {
         let heap = rt.alloc();
         let mut memory = [add(0); 1025];
         let mut sheet = Sheet::<Ticket>::new(&mut memory);
-        let mut order = Vec::new(heap);
-        for number in 0..1024u16 {
-            assert!(rt; sheet.enter(add(u32::from(number))).is_ok());
-            order.push(number)?;
+        let order: Vec<u16> = (0..1024u16).collect(heap)?;
+        for number in order.iter() {
+            assert!(rt; sheet.enter(add(u32::from(*number))).is_ok());
         }
         assert_eq!(rt;
             sheet.enter(add(5000)).err().map(Refusal::from),
-            refused(Layer::Sheet, 20, 1024, 0)
+            refused(Layer::Sheet, 20, 1024)
         );
         let mut out = vec![in heap; 0u8; 26632]?;
         assert!(rt; write::<Ticket>(&sheet, 0, 1, order.as_slice(), out.as_mut_slice()).is_ok());
-        let mut other = [add(0); 1024];
+        assert_eq!(rt; refusal_within(out.as_slice(), &mut [add(0); 1024]), None);
         assert_eq!(rt;
-            refusal_of::<Ticket>(out.as_slice(), &mut Sheet::new(&mut other)),
-            None
-        );
-        let mut short = [add(0); 2];
-        assert_eq!(rt;
-            refusal_of::<Ticket>(out.as_slice(), &mut Sheet::new(&mut short)),
-            refused(Layer::Sheet, 20, 2, 0)
+            ticket_refusal(out.as_slice()),
+            refused(Layer::Sheet, 20, 2)
         );
         Ok(())
     }

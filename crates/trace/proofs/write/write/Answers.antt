@@ -1,4 +1,4 @@
-use Rattle.std.proofs.Common.{◌≡◌, length, Ok, ap, ◌∙◌, rules}
+use Rattle.std.proofs.Common.{◌≡◌, Ok, rules}
 use Rattle.frame.specs.Kinds.{kind_named}
 use Rattle.frame.proofs.KindNumbers.{number_named}
 use Rattle.trace.proofs.write.write.Goals as goal
