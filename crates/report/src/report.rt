@@ -26,7 +26,7 @@ use trace::fault::CopyFault;
 use trace::read::Accepted;
 
 // Why there is no report.
-#[derive(Clone, Copy)]
+#[derive(Clone, Copy, PartialEq, Eq, Debug)]
 pub enum ReportFault {
     NoMemory,
     // an accepted trace, written back, was not its own bytes: this never happens
