@@ -6,7 +6,7 @@ use calls::certificate::Certificate;
 use std::fmt;
 
 // The line of a step: its operation, its rank error and its instant.
-#[derive(Clone, Copy)]
+#[derive(Clone, Copy, PartialEq, Eq, Debug)]
 pub struct StepLine {
     pub step: usize,
     pub operation: u16,
@@ -15,14 +15,14 @@ pub struct StepLine {
 }
 
 // The line of an add and its lateness.
-#[derive(Clone, Copy)]
+#[derive(Clone, Copy, PartialEq, Eq, Debug)]
 pub struct LateLine {
     pub number: usize,
     pub late: u16,
 }
 
 // The line that grants a certificate.
-#[derive(Clone, Copy)]
+#[derive(Clone, Copy, PartialEq, Eq, Debug)]
 pub struct CertifiedLine {
     pub k: u16,
     pub certificate: Certificate,

@@ -1,4 +1,4 @@
-ghost use Rattle.std.specs.Prelude.{◌≡◌, ℕ, min, true, ◌⊎◌, length, IfOk, Some, MatchResult};
+ghost use Rattle.std.specs.Prelude.{◌≡◌, ℕ, true, ◌⊎◌, IfOk, Some, MatchResult};
 ghost use Rattle.item.specs.Tickets.{ticket_items};
 ghost use Rattle.item.specs.Stamps.{stamp_items};
 ghost use Rattle.sheet.specs.Sheets.{entered};
@@ -18,7 +18,6 @@ use examination::proposal::Proposal;
 use item::item::Item;
 use item::stamp::Stamp;
 use item::ticket::Ticket;
-use sheet::operation::Operation;
 use sheet::sheet::Sheet;
 use std::alloc::{AllocError, Global};
 use trace::copy::copy;
@@ -26,7 +25,7 @@ use trace::fault::CopyFault;
 use trace::read::Accepted;
 
 // Why there is no report.
-#[derive(Clone, Copy)]
+#[derive(Clone, Copy, PartialEq, Eq, Debug)]
 pub enum ReportFault {
     NoMemory,
     // an accepted trace, written back, was not its own bytes: this never happens
@@ -65,35 +64,22 @@ fn faulted(heap: Global, fault: CopyFault) -> Result<Report, ReportFault>
     Ok(refused(heap, refusal)?)
 }
 
-// The report of a trace of that item type, over records and memory to write it back into.
-fn report_onto<I: Item>(
-    heap: Global,
-    bytes: &[u8],
-    records: &mut [Operation<I>],
-    out: &mut [u8],
-) -> Result<Report, ReportFault>
-    requires { length out.old ≡ length bytes.now }
-    ensures { MatchResult result (λ p. verdict_in p ≡ saying I.Item (reading I.Item (min (length records.old) 1024) bytes.now)) (λ e. e ≡ NoMemory) }
-{
-    let mut sheet = Sheet::new(records);
-    match copy(heap, bytes, &mut sheet, out) {
-        Ok(accepted) => {
-            if *out != *bytes {
-                return Err(ReportFault::NotItsOwnBytes);
-            }
-            Ok(examined(heap, &sheet, &accepted)?)
-        }
-        Err(fault) => faulted(heap, fault),
-    }
-}
-
 // The report of a trace of that item type.
 fn report_of<I: Item>(heap: Global, bytes: &[u8]) -> Result<Report, ReportFault>
     ensures { MatchResult result (λ p. verdict_in p ≡ saying I.Item (reading I.Item 1024 bytes.now)) (λ e. e ≡ NoMemory) }
 {
     let mut records = blank_records::<I>(heap, 1024)?;
     let mut out = vec![in heap; 0u8; bytes.len()]?;
-    report_onto(heap, bytes, records.as_mut_slice(), out.as_mut_slice())
+    let mut sheet = Sheet::new(records.as_mut_slice());
+    match copy(heap, bytes, &mut sheet, out.as_mut_slice()) {
+        Ok(accepted) => {
+            if *out.as_slice() != *bytes {
+                return Err(ReportFault::NotItsOwnBytes);
+            }
+            Ok(examined(heap, &sheet, &accepted)?)
+        }
+        Err(fault) => faulted(heap, fault),
+    }
 }
 
 // The report of a trace: its order's certificate, or the one line of its refusal. A certificate is granted exactly to the

@@ -12,12 +12,14 @@ use crate::buffers::OwnBuffers;
 use crate::line::CertifiedLine;
 use crate::lines::{late_lines, step_lines};
 use calls::certificate::Certificate;
+use counting::queue::CountingQueue;
 use docket::buffers::Buffers;
 use examination::certifying::certify_order;
-use examination::kind::certify_of_kind;
 use examination::proposal::Proposal;
 use frame::kind::Kind;
 use holder::holder::Holder;
+use holder::queue::Queue;
+use holder::stack::Stack;
 use item::item::Item;
 use refusal::Refusal;
 use sheet::sheet::Sheet;
@@ -87,23 +89,6 @@ fn answered<I: Item>(
     }
 }
 
-// What is said of an order by the strict object of that kind.
-// Kept (no plainer): one call differs from `verdict`; a closure for it, and what it promises, would be longer than both.
-pub(crate) fn verdict_by_kind<I: Item>(
-    heap: Global,
-    sheet: &Sheet<I>,
-    kind: Kind,
-    proposal: &Proposal,
-) -> Result<Report, AllocError>
-    ensures { IfOk result (λ p. verdict_in p ≡ verdict_of_order I.Item (seat_of (kind_number kind)) (entered sheet.now) proposal.now.k proposal.now.order.now) }
-{
-    let room = proposal.order.len().max(sheet.count());
-    let mut own = OwnBuffers::new(heap, room)?;
-    let mut buffers = own.lend();
-    let answer = certify_of_kind(sheet, kind, proposal, &mut buffers);
-    answered(heap, sheet, proposal, answer, &buffers)
-}
-
 // What is said of an order: a certificate exactly when it is a true order, and else the first rule that it breaks.
 pub fn verdict<I: Item, H: Holder + Drop>(
     heap: Global,
@@ -119,4 +104,21 @@ pub fn verdict<I: Item, H: Holder + Drop>(
     let mut buffers = own.lend();
     let answer = certify_order(sheet, holder, proposal, &mut buffers);
     answered(heap, sheet, proposal, answer, &buffers)
+}
+
+// The same by the strict object of that kind.
+// Kept (no plainer): a holder's type is picked at run time only by a match, here and in `certify_of_kind`.
+pub(crate) fn verdict_by_kind<I: Item>(
+    heap: Global,
+    sheet: &Sheet<I>,
+    kind: Kind,
+    proposal: &Proposal,
+) -> Result<Report, AllocError>
+    ensures { IfOk result (λ p. verdict_in p ≡ verdict_of_order I.Item (seat_of (kind_number kind)) (entered sheet.now) proposal.now.k proposal.now.order.now) }
+{
+    match kind {
+        Kind::Queue => verdict(heap, sheet, Queue::new(), proposal),
+        Kind::Stack => verdict(heap, sheet, Stack::new(), proposal),
+        Kind::CountingQueue => verdict(heap, sheet, CountingQueue::new(), proposal),
+    }
 }
