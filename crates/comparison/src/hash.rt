@@ -9,5 +9,8 @@ pub(crate) const OF_NOTHING: u64 = 14695981039346656037;
 pub(crate) fn hash_on(before: u64, bytes: &[u8]) -> u64
     ensures { result ≡ hashed before bytes.now }
 {
-    bytes.iter().fold(before, |hash, byte| (hash ^ u64::from(*byte)).wrapping_mul(1099511628211))
+    bytes.iter().fold(
+        before,
+        |hash, byte| (hash ^ u64::from(*byte)).wrapping_mul(1099511628211),
+    )
 }
