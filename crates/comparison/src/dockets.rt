@@ -4,12 +4,13 @@ ghost use Rattle.std.specs.Iterator.{at_most};
 
 use crate::hash::{OF_NOTHING, hash_on};
 use crate::numbers::next_number;
+use crate::traces::on_sheet;
 use crate::words::{certify_words, number_words, run_words};
 use calls::fault::{DocketFault, RefusalCode};
 use counting::queue::CountingQueue;
 use docket::attend::attend;
 use docket::slot::Slot;
-use examination::examining::{blank_records, has_stamps};
+use examination::examining::has_stamps;
 use frame::kind::Kind;
 use frame::order::Order;
 use holder::holder::Holder;
@@ -17,10 +18,8 @@ use holder::queue::Queue;
 use holder::stack::Stack;
 use item::item::Item;
 use record::bytes::number_at;
-use refusal::Refusal;
 use sheet::sheet::Sheet;
 use std::alloc::{AllocError, Global};
-use trace::read::read;
 
 // A slot with a run along the order that the bytes say.
 fn run_slot(heap: Global, order: &[u8]) -> Result<Slot, AllocError> {
@@ -164,23 +163,18 @@ fn on_trace<I: Item>(
     trace: &[u8],
     calls: &[u8],
 ) -> Result<String, AllocError> {
-    let mut records = blank_records::<I>(heap, 1024)?;
-    let mut sheet = Sheet::new(records.as_mut_slice());
-    if let Err(fault) = read(trace, &mut sheet) {
-        let refusal = Refusal::from(fault);
-        return format!(in heap; "docket unread {refusal}");
-    }
-    match kind {
-        Kind::Queue => attended::<I, Queue>(heap, &sheet, Queue::new(), k, calls),
-        Kind::Stack => attended::<I, Stack>(heap, &sheet, Stack::new(), k, calls),
+    // Kept (no plainer): the kind is known at run time only, and a match is what picks a holder's type then.
+    on_sheet(heap, "docket", trace, |sheet: &Sheet<I>| match kind {
+        Kind::Queue => attended::<I, Queue>(heap, sheet, Queue::new(), k, calls),
+        Kind::Stack => attended::<I, Stack>(heap, sheet, Stack::new(), k, calls),
         Kind::CountingQueue => attended::<I, CountingQueue>(
             heap,
-            &sheet,
+            sheet,
             CountingQueue::new(),
             k,
             calls,
         ),
-    }
+    })
 }
 
 // The answer to a case of calls on a docket, or none where it is no such case.
@@ -194,6 +188,7 @@ pub(crate) fn docket_answer(heap: Global, body: &[u8]) -> Result<Option<String>,
         return Ok(None);
     };
     let kind = Kind::try_from(body[0]).unwrap_or(Kind::CountingQueue);
+    // Kept (no plainer): the item type is known at run time only, and a choice of calls is what picks a type then.
     let text = if has_stamps(trace) {
         on_trace::<item::stamp::Stamp>(heap, kind, k, trace, calls)?
     } else {

@@ -65,6 +65,7 @@ pub(crate) fn holder_answer(heap: Global, body: &[u8]) -> Result<Option<String>,
     let Some((kind, calls)) = body.split_first() else {
         return Ok(None);
     };
+    // Kept (no plainer): the kind is known at run time only, and a match is what picks a holder's type then.
     let text = match Kind::try_from(*kind).unwrap_or(Kind::CountingQueue) {
         Kind::Queue => answers_of(heap, &mut Queue::new(), calls)?,
         Kind::Stack => answers_of(heap, &mut Stack::new(), calls)?,

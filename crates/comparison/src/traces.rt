@@ -79,6 +79,7 @@ pub(crate) fn reading_answer(heap: Global, body: &[u8]) -> Result<Option<String>
     let Some((first, second)) = rest.split_at_checked(length) else {
         return Ok(None);
     };
+    // Kept (no plainer): the item type is known at run time only, and a choice of calls is what picks a type then.
     let text = if has_stamps(first) {
         readings::<item::stamp::Stamp>(heap, room, first, second)?
     } else {
@@ -102,6 +103,26 @@ fn written_words(
     }
 }
 
+// What the trace's operations are answered by, or, where the trace is refused, its refusal behind the case's word.
+pub(crate) fn on_sheet<I: Item, F: FnOnce(&Sheet<I>) -> Result<String, AllocError>>(
+    heap: Global,
+    case: &str,
+    trace: &[u8],
+    answer: F,
+) -> Result<String, AllocError>
+    requires { F.IsAlwaysCallable answer }
+{
+    let mut records = blank_records::<I>(heap, 1024)?;
+    let mut sheet = Sheet::new(records.as_mut_slice());
+    match read(trace, &mut sheet) {
+        Ok(_) => answer(&sheet),
+        Err(fault) => {
+            let refusal = Refusal::from(fault);
+            format!(in heap; "{case} unread {refusal}")
+        }
+    }
+}
+
 // The operations of a trace, written with another kind, k and order into so many bytes.
 fn writing<I: Item>(
     heap: Global,
@@ -111,15 +132,11 @@ fn writing<I: Item>(
     order: &[u16],
     size: usize,
 ) -> Result<String, AllocError> {
-    let mut records = blank_records::<I>(heap, 1024)?;
-    let mut sheet = Sheet::new(records.as_mut_slice());
-    if let Err(fault) = read(trace, &mut sheet) {
-        let refusal = Refusal::from(fault);
-        return format!(in heap; "write unread {refusal}");
-    }
-    let mut memory = vec![in heap; 0xa5u8; size]?;
-    let answer = write(&sheet, kind, k, order, memory.as_mut_slice());
-    written_words(heap, answer, hash_on(OF_NOTHING, memory.as_slice()))
+    on_sheet(heap, "write", trace, |sheet: &Sheet<I>| {
+        let mut memory = vec![in heap; 0xa5u8; size]?;
+        let answer = write(sheet, kind, k, order, memory.as_mut_slice());
+        written_words(heap, answer, hash_on(OF_NOTHING, memory.as_slice()))
+    })
 }
 
 // The answer to a case of writing, or none where it is no such case.
@@ -134,6 +151,7 @@ pub(crate) fn writing_answer(heap: Global, body: &[u8]) -> Result<Option<String>
         return Ok(None);
     };
     let order = Order::new(order).numbers(heap)?;
+    // Kept (no plainer): the item type is known at run time only, and a choice of calls is what picks a type then.
     let text = if has_stamps(trace) {
         writing::<item::stamp::Stamp>(heap, trace, body[0], k, order.as_slice(), size)?
     } else {
