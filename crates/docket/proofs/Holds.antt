@@ -11,7 +11,8 @@ use Rattle.order.specs.Steps.{SeatRule, operation, after_step, giving_from, item
 use Rattle.holder.specs.Answers.{add_answer}
 use Rattle.docket.specs.declared.entry.Entry.{Entry}
 use Rattle.docket.specs.Kept.{entry_of}
-use Rattle.docket.specs.Moves.{Stand, stepped, replayed}
+use Rattle.holder.specs.Meanings.{Meaning}
+use Rattle.docket.specs.Moves.{stepped, replayed}
 use Rattle.order.proofs.AddUp.{after_times}
 use Rattle.order.proofs.Sizes.{added_one}
 
@@ -23,17 +24,17 @@ add_ok L n x h z l =
     rw (a, b, d)
 
 pub stepped_after : (seat : SeatRule) (x : ℕ) (d : Deed) (L : List ℕ) (n : ℕ) → x < 1024 → times x L ≡ 0 → n < 1024
-    → stepped seat x d (record { list = L; many = n }) ≡ record { list = after_step seat x d L; many = n + items_added d }
+    → stepped seat x d (record { list = L; count = n }) ≡ record { list = after_step seat x d L; count = n + items_added d }
 stepped_after seat x Add L n h z l =
     let e = add_ok L n x h z l in
     let a = cond-true (is_ok (add_answer L n x)) (insert L (seat L x) x) L e in
     let b = cond-true {A = ℕ} (is_ok (add_answer L n x)) (n + 1) n e in
-    ap (λ (m : List ℕ). record { list = m; many = cond (is_ok (add_answer L n x)) (n + 1) n }) a ∙ ap (λ (m : ℕ). record { list = insert L (seat L x) x; many = m }) b
+    ap (λ (m : List ℕ). record { list = m; count = cond (is_ok (add_answer L n x)) (n + 1) n }) a ∙ ap (λ (m : ℕ). record { list = insert L (seat L x) x; count = m }) b
 stepped_after seat x (Take a) L n h z l =
     let e : n ≡ n + 0 = omega arith in
-    ap (λ (m : ℕ). record { list = without a L; many = m }) e
-stepped_after seat x TakeOfNone L n h z l = let e : n ≡ n + 0 = omega arith in ap (λ (m : ℕ). record { list = L; many = m }) e
-stepped_after seat x FoundEmpty L n h z l = let e : n ≡ n + 0 = omega arith in ap (λ (m : ℕ). record { list = L; many = m }) e
+    ap (λ (m : ℕ). record { list = without a L; count = m }) e
+stepped_after seat x TakeOfNone L n h z l = let e : n ≡ n + 0 = omega arith in ap (λ (m : ℕ). record { list = L; count = m }) e
+stepped_after seat x FoundEmpty L n h z l = let e : n ≡ n + 0 = omega arith in ap (λ (m : ℕ). record { list = L; count = m }) e
 
 module _ (seat : SeatRule) (es : List Entry) (ops : List Paired) where
   -- an operation of the table, as the model has it
@@ -41,16 +42,16 @@ module _ (seat : SeatRule) (es : List Entry) (ops : List Paired) where
   Sane x = (x < 1024) × ((entry_of es x).paired.deed ≡ (operation ops x).deed)
 
   pub replayed_held : (p L : List ℕ) (n : ℕ) → AllByRecursion Sane p → ((y : ℕ) → times y L + times y p ≤ 1) → n + length p ≤ 1024
-      → replayed seat es (record { list = L; many = n }) p ≡ record { list = giving_from seat ops L p; many = n + adds_in ops p }
+      → replayed seat es (record { list = L; count = n }) p ≡ record { list = giving_from seat ops L p; count = n + adds_in ops p }
   unfolding replayed
-  replayed_held [] L n all once few = let e : n ≡ n + 0 = omega arith in ap (λ (m : ℕ). record { list = L; many = m }) e
+  replayed_held [] L n all once few = let e : n ≡ n + 0 = omega arith in ap (λ (m : ℕ). record { list = L; count = m }) e
   replayed_held (x ∷ p) L n all once few =
       let d : Deed = (operation ops x).deed in
       let hit = cond-true {A = ℕ} (eqb x x) 1 0 (eq-eqb x x refl) in
       let z : times x L ≡ 0 = omega (arith, once x) in
-      let s : stepped seat x (entry_of es x).paired.deed (record { list = L; many = n }) ≡ record { list = after_step seat x d L; many = n + items_added d } =
-      ap (λ (e : Deed). stepped seat x e (record { list = L; many = n })) all.0.1 ∙ stepped_after seat x d L n all.0.0 z (omega arith) in
+      let s : stepped seat x (entry_of es x).paired.deed (record { list = L; count = n }) ≡ record { list = after_step seat x d L; count = n + items_added d } =
+      ap (λ (e : Deed). stepped seat x e (record { list = L; count = n })) all.0.1 ∙ stepped_after seat x d L n all.0.0 z (omega arith) in
       let m : n + items_added d + adds_in ops p ≡ n + (items_added d + adds_in ops p) = omega arith in
-      ap (λ (t : Stand). replayed seat es t p) s
+      ap (λ (t : Meaning). replayed seat es t p) s
       ∙ replayed_held p (after_step seat x d L) (n + items_added d) all.1 (λ y. omega (arith, once y, after_times seat x d L y)) (omega (arith, added_one d))
-      ∙ ap (λ (v : ℕ). record { list = giving_from seat ops (after_step seat x d L) p; many = v }) m
+      ∙ ap (λ (v : ℕ). record { list = giving_from seat ops (after_step seat x d L) p; count = v }) m

@@ -11,7 +11,8 @@ use Rattle.docket.specs.declared.step.Step.{Step}
 use Rattle.docket.specs.declared.ledger.Ledger.{Ledger}
 use Rattle.docket.specs.Kept.{entry_of, numbers_in, ranks_in}
 use Rattle.docket.specs.InStep.{paired_in, ops_of, steps_of, InStep}
-use Rattle.docket.specs.Moves.{Stand, replayed, with_late, one_less, with_flag, changed_at, changed_all}
+use Rattle.holder.specs.Meanings.{Meaning}
+use Rattle.docket.specs.Moves.{replayed, with_late, one_less, with_flag, changed_at, changed_all}
 use Rattle.docket.proofs.Books.{last_step}
 use Rattle.order.proofs.Sizes.{held_times}
 use Rattle.docket.proofs.Pushes.{ranks_push, lateness_push}
@@ -51,21 +52,21 @@ module _ (seat : SeatRule) (l u : Ledger) (x : ℕ)
       (m-ss : m.steps ≡ u.steps)
       (m-placed : m.placed ≡ u.placed)
       (m-count : m.count ≡ u.count)
-      (stand : ◌≡◌ {A = Stand} (record { list = L; many = n }) (replayed seat u.entries (record { list = []; many = 0 }) (steps_of u))) where
+      (stand : ◌≡◌ {A = Meaning} (record { list = L; count = n }) (replayed seat u.entries (record { list = []; count = 0 }) (steps_of u))) where
     m_to_u : ops_of m ≡ ops_of u
     m_to_u = ap (λ (v : ℕ). take v (map paired_in m.entries)) m-count ∙ moved_ops m.entries (take r L) m-es
 
     m_steps : steps_of m ≡ steps_of u
     m_steps = ap (λ (v : ℕ). take v (numbers_in m.steps)) m-placed ∙ ap (λ (v : List Step). take u.placed (numbers_in v)) m-ss
 
-    stand_is : ◌≡◌ {A = Stand} (record { list = L; many = n }) (record { list = giving_after seat (ops_of u) (steps_of u); many = 0 + adds_in (ops_of u) (steps_of u) })
+    stand_is : ◌≡◌ {A = Meaning} (record { list = L; count = n }) (record { list = giving_after seat (ops_of u) (steps_of u); count = 0 + adds_in (ops_of u) (steps_of u) })
     stand_is = stand ∙ replayed_held seat u.entries (ops_of u) (steps_of u) [] 0 (sane u) (λ y. omega (arith, u.once y)) (omega (arith, long_steps u))
 
     l_is : L ≡ giving_after seat (ops_of u) (steps_of u)
-    l_is = ap (λ (s : Stand). s.list) stand_is
+    l_is = ap (λ (s : Meaning). s.list) stand_is
 
     n_is : n ≡ adds_in (ops_of u) (steps_of u)
-    n_is = omega (arith, ap (λ (s : Stand). s.many) stand_is)
+    n_is = omega (arith, ap (λ (s : Meaning). s.count) stand_is)
 
     -- the holder gives what the steps that are left come to, whatever it gave before
     pub lifted_gives : L ≡ giving_after seat (ops_of m) (steps_of m)

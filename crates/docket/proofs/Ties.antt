@@ -18,7 +18,8 @@ use Rattle.docket.specs.declared.step.Step.{Step}
 use Rattle.docket.specs.declared.ledger.Ledger.{Ledger}
 use Rattle.docket.specs.Kept.{blank, entry_of, numbers_in, ranks_in}
 use Rattle.docket.specs.InStep.{paired_in, ops_of, steps_of, InStep}
-use Rattle.docket.specs.Moves.{Stand, stepped, rank_found, waits, judged, judged_rank, judged_wait, with_late, one_more, with_flag, changed_at, changed_all}
+use Rattle.holder.specs.Meanings.{Meaning}
+use Rattle.docket.specs.Moves.{stepped, rank_found, waits, judged, judged_rank, judged_wait, with_late, one_more, with_flag, changed_at, changed_all}
 use Rattle.docket.proofs.Books.{lowest_position, lowest_ext, unflagged, room}
 use Rattle.docket.proofs.Turns.{judged_in}
 use Rattle.order.proofs.Sizes.{held_times, adds_le, late_le}
@@ -217,7 +218,7 @@ module _ (seat : SeatRule) (l m : Ledger) (L : List ℕ) (x r : ℕ)
 
   module _ (n n' : ℕ) (L' : List ℕ) (i : InStep seat L n l)
       (rank_is : r ≡ rank_error (entry_of l.entries x).paired.deed L)
-      (stand_is : ◌≡◌ {A = Stand} (record { list = L'; many = n' }) (stepped seat x (entry_of l.entries x).paired.deed (record { list = L; many = n }))) where
+      (stand_is : ◌≡◌ {A = Meaning} (record { list = L'; count = n' }) (stepped seat x (entry_of l.entries x).paired.deed (record { list = L; count = n }))) where
     d : Deed
     d = (operation (ops_of l) x).deed
 
@@ -228,9 +229,9 @@ module _ (seat : SeatRule) (l m : Ledger) (L : List ℕ) (x r : ℕ)
     once_held : (a : ℕ) → times a L ≤ times a (steps_of l)
     once_held a = omega (arith, ap (times a) i.gives, held_times seat (ops_of l) a (steps_of l) [])
 
-    after_is : ◌≡◌ {A = Stand} (record { list = L'; many = n' }) (record { list = after_step seat x d L; many = n + items_added d })
+    after_is : ◌≡◌ {A = Meaning} (record { list = L'; count = n' }) (record { list = after_step seat x d L; count = n + items_added d })
     after_is =
-        stand_is ∙ ap (λ (e : Deed). stepped seat x e (record { list = L; many = n })) d_is
+        stand_is ∙ ap (λ (e : Deed). stepped seat x e (record { list = L; count = n })) d_is
         ∙ stepped_after seat x d L n (omega arith) (omega (arith, once_held x, new))
         (omega (arith, i.added, adds_le (ops_of l) (steps_of l), long_steps l, fits))
 
@@ -255,10 +256,10 @@ module _ (seat : SeatRule) (l m : Ledger) (L : List ℕ) (x r : ℕ)
     unfolding d
     placed_in_step = record {
       gives =
-          ap (λ (s : Stand). s.list) after_is ∙ ap (after_step seat x d) i.gives ∙ sym (held_push seat (ops_of l) [] (steps_of l) x)
+          ap (λ (s : Meaning). s.list) after_is ∙ ap (after_step seat x d) i.gives ∙ sym (held_push seat (ops_of l) [] (steps_of l) x)
           ∙ ap (giving_after seat (ops_of l)) (sym placed_steps) ∙ ap (λ (o : List Paired). giving_after seat o (steps_of m)) (sym placed_ops);
       added =
-          ap (λ (s : Stand). s.many) after_is ∙ ap (λ (v : ℕ). v + items_added d) i.added ∙ sym (adds_push (ops_of l) (steps_of l) x)
+          ap (λ (s : Meaning). s.count) after_is ∙ ap (λ (v : ℕ). v + items_added d) i.added ∙ sym (adds_push (ops_of l) (steps_of l) x)
           ∙ ap (adds_in (ops_of l)) (sym placed_steps) ∙ ap (λ (o : List Paired). adds_in o (steps_of m)) (sym placed_ops);
       lates = λ y yn.
           late_is y (omega (arith, count_is, yn))

@@ -3,6 +3,7 @@ use Rattle.std.specs.Prelude.{ℕ, ◌+◌, ◌-◌, ◌^◌, min, Bool, cond, n
 use Rattle.std.specs.List.{insert}
 use Rattle.giving.specs.Lists.{without}
 use Rattle.holder.specs.Answers.{add_answer}
+use Rattle.holder.specs.Meanings.{Meaning}
 use Rattle.order.specs.declared.operation.Deed.{Deed}
 use Rattle.order.specs.declared.operation.Deed.TheVariants.{Add, Take, TakeOfNone, FoundEmpty}
 use Rattle.order.specs.Steps.{SeatRule, has_rank, rank_error}
@@ -11,23 +12,18 @@ use Rattle.calls.specs.declared.fault.DocketFault.TheVariants.{NoSuchOperation, 
 use Rattle.docket.specs.declared.entry.Entry.{Entry}
 use Rattle.docket.specs.Kept.{entry_of}
 
--- a holder, as its giving list and its count of adds
-pub record Stand : Type 0 where
-  pub list : List ℕ
-  pub many : ℕ
-
 -- a holder that is told a step
-abbrev pub stepped : SeatRule → ℕ → Deed → Stand → Stand
+abbrev pub stepped : SeatRule → ℕ → Deed → Meaning → Meaning
 stepped seat x Add s = record {
-  list = cond (is_ok (add_answer s.list s.many x)) (insert s.list (seat s.list x) x) s.list;
-  many = cond (is_ok (add_answer s.list s.many x)) (s.many + 1) s.many;
+  list = cond (is_ok (add_answer s.list s.count x)) (insert s.list (seat s.list x) x) s.list;
+  count = cond (is_ok (add_answer s.list s.count x)) (s.count + 1) s.count;
 }
-stepped seat x (Take a) s = record { list = without a s.list; many = s.many }
+stepped seat x (Take a) s = record { list = without a s.list; count = s.count }
 stepped seat x TakeOfNone s = s
 stepped seat x FoundEmpty s = s
 
 -- a holder that is told the steps one after another
-unfoldable pub replayed : SeatRule → List Entry → Stand → List ℕ → Stand
+unfoldable pub replayed : SeatRule → List Entry → Meaning → List ℕ → Meaning
 replayed seat es s [] = s
 replayed seat es s (x ∷ p) = replayed seat es (stepped seat x (entry_of es x).paired.deed s) p
 

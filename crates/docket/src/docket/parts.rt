@@ -21,7 +21,7 @@ pub(crate) fn rank_of<H: Holder>(holder: &H, deed: Deed) -> Option<u16>
 
 // Tells the holder a step.
 pub(crate) fn step<H: Holder>(holder: &mut H, operation: u16, deed: Deed)
-    ensures { record { list = H.Holder.giving holder.new; many = H.Holder.adds holder.new } ≡ stepped H.Holder.seat operation deed (record { list = H.Holder.giving holder.old; many = H.Holder.adds holder.old }) }
+    ensures { record { list = H.Holder.giving holder.new; count = H.Holder.adds holder.new } ≡ stepped H.Holder.seat operation deed (record { list = H.Holder.giving holder.old; count = H.Holder.adds holder.old }) }
 {
     match deed {
         Deed::Add => {

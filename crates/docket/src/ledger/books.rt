@@ -64,7 +64,7 @@ impl Ledger {
 
     // Clears the holder, and tells it the placed steps.
     pub(crate) fn replay<H: Holder>(&self, holder: &mut H)
-        ensures { record { list = H.Holder.giving holder.new; many = H.Holder.adds holder.new } ≡ replayed H.Holder.seat self.now.entries (record { list = []; many = 0 }) (steps_of self.now) }
+        ensures { record { list = H.Holder.giving holder.new; count = H.Holder.adds holder.new } ≡ replayed H.Holder.seat self.now.entries (record { list = []; count = 0 }) (steps_of self.now) }
     {
         holder.clear();
         let order = self.order();

@@ -5,5 +5,5 @@ use Rattle.docket.proofs.ledger.Ledger.replay.Given as goal
 
 abbrev pub invariant-loop-placed : goal.invariant-loop-placed
 invariant-loop-placed g l =
-    replayed g.H.Holder.seat l.self.entries (record { list = g.H.Holder.giving l.holder; many = g.H.Holder.adds l.holder }) (drop l.placed-index (steps_of l.self))
-    ≡ replayed g.H.Holder.seat l.self.entries (record { list = []; many = 0 }) (steps_of l.self)
+    replayed g.H.Holder.seat l.self.entries (record { list = g.H.Holder.giving l.holder; count = g.H.Holder.adds l.holder }) (drop l.placed-index (steps_of l.self))
+    ≡ replayed g.H.Holder.seat l.self.entries (record { list = []; count = 0 }) (steps_of l.self)
