@@ -2,6 +2,7 @@ ghost use Rattle.std.specs.Prelude.{◌≡◌, ℕ, ◌^◌, ◌<◌, List};
 ghost use Rattle.record.specs.Bytes.{big};
 ghost use Rattle.record.specs.Records.{encode_record, Fit};
 
+use frame::layout::RECORD_LEN;
 use item::item::Item;
 use record::encoding::{RecordBytes, encode};
 use sheet::operation::Operation;
@@ -22,7 +23,7 @@ pub trait Row<const W: usize> {
         ensures fit { fit self.now };
 }
 
-impl<I: Item> Row<24> for Operation<I> {
+impl<I: Item> Row<RECORD_LEN> for Operation<I> {
     ghost bytes = { encode_record I.Item };
 
     ghost fit = { Fit I.Item };
