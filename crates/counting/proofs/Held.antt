@@ -40,13 +40,6 @@ pub not_held : (q : CountingQueue) (c : ℕ) → get_or q.positions c None ≡ N
 not_held q c z = place_absent c (codes q.arrivals.slots) (codes_absent q.arrivals.slots q.positions c q.placed (ap number_of z))
 
 -- ---- the slot of a number
-pub no_slot : (n : ℕ) (slot : Option Slot) → number_of slot ≡ (if nat_lt n 1024 then Some n else None) → slot ≡ None → 1024 ≤ n
-no_slot n slot e z =
-    ⊎_elim
-    (λ (h : n < 1024). let t = lt-ltb n 1024 h in let y = ap number_of z in let f = rw t at e in absurd cc)
-    (λ (h : 1024 ≤ n). h)
-    (cases_lt n 1024)
-
 pub slot_number : (n : ℕ) (slot : Option Slot) (there : Slot) → number_of slot ≡ (if nat_lt n 1024 then Some n else None) → slot ≡ Some there → there.number ≡ n
 slot_number n slot there e z =
     let y = ap number_of z in

@@ -29,6 +29,7 @@ pub fn certify_of_kind<I: Item>(
     ensures written { held buffers.new ≡ order_written (seat_of (kind_number kind)) (sheet_ops I.Item.number sheet.now) proposal.now.k proposal.now.order.now (held buffers.old) }
     ensures lenders { SameSlices buffers.old buffers.new }
 {
+    // Kept (no plainer): the kind is known at run time only, and a match is what picks a holder's type then.
     match kind {
         Kind::Queue => certify_order(sheet, Queue::new(), proposal, buffers),
         Kind::Stack => certify_order(sheet, Stack::new(), proposal, buffers),

@@ -35,7 +35,7 @@ pub struct PlainOutcome {
 }
 
 // The number of a layer, from the bytes upward.
-// Kept (rule of the project): callers in C have no Layer, and these are their numbers for it.
+// Kept (no plainer): callers in C have no Layer; a From would have to stand in the crate of Layer, which has no use for these numbers.
 fn layer_number(layer: Layer) -> u8
     ensures { result ≡ number_of_layer layer }
 {

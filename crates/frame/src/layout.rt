@@ -1,8 +1,7 @@
+use record::encoding::RECORD_LEN;
+
 // The bytes of a header.
 pub const HEADER_LEN: usize = 8;
 
-// The bytes of a record.
-pub const RECORD_LEN: usize = 24;
-
 // The bytes of an operation: its record, and its number in the order.
-pub const OPERATION_LEN: usize = 26;
+pub const OPERATION_LEN: usize = RECORD_LEN + 2;

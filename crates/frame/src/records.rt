@@ -2,7 +2,8 @@ ghost use Rattle.std.specs.Prelude.{◌≡◌, if◌then◌else◌, Some, None, 
 ghost use Rattle.std.specs.Option.{option_map};
 ghost use Rattle.frame.specs.Layout.{record_count, record_at, records_in};
 
-use crate::layout::{HEADER_LEN, OPERATION_LEN, RECORD_LEN};
+use crate::layout::{HEADER_LEN, OPERATION_LEN};
+use record::encoding::RECORD_LEN;
 
 // The bytes of a trace, from which it hands out its records.
 #[derive(Clone, Copy, PartialEq, Eq, Debug)]

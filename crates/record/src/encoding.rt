@@ -5,8 +5,11 @@ ghost use Rattle.record.specs.Records.{decode_record, encode_record, word_of_met
 use item::item::Item;
 use sheet::operation::{Method, Operation};
 
+// How many bytes a record has.
+pub const RECORD_LEN: usize = 24;
+
 // The bytes of one record.
-pub type RecordBytes = [u8; 24];
+pub type RecordBytes = [u8; RECORD_LEN];
 
 // The first 48 bits of a record: the method, six zero bits and the item field.
 fn word_of<I: Item>(method: &Method<I>) -> u64
@@ -24,7 +27,7 @@ fn word_of<I: Item>(method: &Method<I>) -> u64
 fn lay_out(word: u64, thread: u16, start: u64, end: u64) -> RecordBytes
     ensures { result ≡ big 6 word ++ big 2 thread ++ big 8 start ++ big 8 end }
 {
-    let mut bytes = [0; 24];
+    let mut bytes = [0; RECORD_LEN];
     bytes[..6].copy_from_slice(&word.to_be_bytes()[2..]);
     bytes[6..8].copy_from_slice(&thread.to_be_bytes());
     bytes[8..16].copy_from_slice(&start.to_be_bytes());

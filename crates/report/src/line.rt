@@ -32,11 +32,11 @@ impl fmt::Display for StepLine {
     ghost output = { λ l. Some (line_of_step l.step l.operation l.rank l.at) };
 
     fn fmt<W: fmt::Write>(&self, f: &mut fmt::Formatter<W>) -> fmt::Result {
-        let step = self.step;
-        let operation = self.operation;
-        let rank = self.rank;
-        let at = self.at;
-        write!(f, "step {step} op {operation} rank {rank} at {at}\n")
+        write!(
+            f,
+            "step {} op {} rank {} at {}\n",
+            self.step, self.operation, self.rank, self.at
+        )
     }
 }
 
@@ -44,9 +44,7 @@ impl fmt::Display for LateLine {
     ghost output = { λ l. Some (line_of_late l.number l.late) };
 
     fn fmt<W: fmt::Write>(&self, f: &mut fmt::Formatter<W>) -> fmt::Result {
-        let number = self.number;
-        let late = self.late;
-        write!(f, "late {number} {late}\n")
+        write!(f, "late {} {}\n", self.number, self.late)
     }
 }
 
@@ -54,13 +52,11 @@ impl fmt::Display for CertifiedLine {
     ghost output = { λ l. Some (line_of_certified l.k l.certificate) };
 
     fn fmt<W: fmt::Write>(&self, f: &mut fmt::Formatter<W>) -> fmt::Result {
-        let k = self.k;
-        let total = self.certificate.total;
-        let largest = self.certificate.largest;
-        let first = self.certificate.first;
+        let certificate = self.certificate;
         write!(
             f,
-            "certified k {k} total {total} max {largest} step {first}\n"
+            "certified k {} total {} max {} step {}\n",
+            self.k, certificate.total, certificate.largest, certificate.first
         )
     }
 }

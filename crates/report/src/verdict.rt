@@ -107,7 +107,7 @@ pub fn verdict<I: Item, H: Holder + Drop>(
 }
 
 // The same by the strict object of that kind.
-// Kept (no plainer): a holder's type is picked at run time only by a match, here and in `certify_of_kind`.
+// Kept (no plainer): the kind is known at run time only; by a closure over `certify_of_kind` the contract is longer than this match.
 pub(crate) fn verdict_by_kind<I: Item>(
     heap: Global,
     sheet: &Sheet<I>,

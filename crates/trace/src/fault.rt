@@ -102,7 +102,7 @@ impl From<WriteFault> for Refusal {
 
 impl CopyFault {
     // The refusal, or none where memory was wanting.
-    // Kept (no plainer): want of memory has no refusal.
+    // Kept (no plainer): want of memory has no refusal, so the answer is an Option, and a From of a fault for an Option says less than a name.
     pub fn refusal(&self) -> Option<Refusal>
         ensures { result ≡ copy_refusal self.now }
     {

@@ -8,11 +8,12 @@ ghost use Rattle.trace.specs.Answers.{answered, held, left_at, left_by, shown, s
 use crate::fault::{EntryFault, ReadFault, RefusedRecord};
 use frame::header::read_header;
 use frame::kind::Kind;
-use frame::layout::{HEADER_LEN, RECORD_LEN};
+use frame::layout::HEADER_LEN;
 use frame::order::Order;
 use frame::records::Trace;
 use item::item::Item;
 use record::decoding::decode;
+use record::encoding::RECORD_LEN;
 use sheet::sheet::Sheet;
 
 // What an accepted trace says besides its operations.

@@ -2,9 +2,8 @@ ghost use Rattle.std.specs.Prelude.{◌≡◌, ℕ, ◌^◌, ◌<◌, List};
 ghost use Rattle.record.specs.Bytes.{big};
 ghost use Rattle.record.specs.Records.{encode_record, Fit};
 
-use frame::layout::RECORD_LEN;
 use item::item::Item;
-use record::encoding::{RecordBytes, encode};
+use record::encoding::{RECORD_LEN, RecordBytes, encode};
 use sheet::operation::Operation;
 
 // The two bytes of an order's number.

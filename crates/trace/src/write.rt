@@ -11,8 +11,9 @@ ghost use Rattle.trace.specs.Writing.{writing};
 use crate::fault::WriteFault;
 use crate::row::Row;
 use frame::kind::Kind;
-use frame::layout::{HEADER_LEN, OPERATION_LEN, RECORD_LEN};
+use frame::layout::{HEADER_LEN, OPERATION_LEN};
 use item::item::Item;
+use record::encoding::RECORD_LEN;
 use sheet::sheet::Sheet;
 
 // The bytes of a header.
