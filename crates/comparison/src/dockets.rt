@@ -1,9 +1,10 @@
 // Cases of calls on a docket.
-ghost use Rattle.std.specs.Prelude.{◌<◌, length, Some, None};
+ghost use Rattle.std.specs.Prelude.{length};
 ghost use Rattle.std.specs.Iterator.{at_most};
+ghost use Rattle.comparison.specs.Behind.{IsShorterBehind};
 
-use crate::hash::{OF_NOTHING, hash_on};
-use crate::numbers::next_number;
+use crate::hash::{OF_NOTHING, hash_on, hash_short};
+use crate::numbers::{cut, next_number};
 use crate::traces::on_sheet;
 use crate::words::{certify_words, number_words, run_words};
 use calls::fault::{DocketFault, RefusalCode};
@@ -26,7 +27,7 @@ fn run_slot(heap: Global, order: &[u8]) -> Result<Slot, AllocError> {
     Ok(Slot::Run {
         order: Order::new(order).numbers(heap)?,
         new: 0,
-        stopped: RefusalCode::from(None),
+        stopped: RefusalCode::default(),
     })
 }
 
@@ -47,7 +48,7 @@ fn certify_slot(
 
 // A slot with the call at the front of the bytes, and the bytes behind it; none where no whole call stands there.
 fn next_slot(heap: Global, bytes: &[u8]) -> Option<(Result<Slot, AllocError>, &[u8])>
-    ensures { elim result [ Some c ↦ length c.1.now < length bytes.now | None ↦ Unit {0} ] }
+    ensures { IsShorterBehind bytes.now result }
 {
     let (letter, behind) = bytes.split_first()?;
     let answer = Err(DocketFault::NothingToLift);
@@ -110,15 +111,11 @@ fn slot_words(heap: Global, slot: &Slot) -> Result<String, AllocError> {
             latenesses,
             answer,
         } => {
-            let hash = ranks
-                .iter()
-                .fold(OF_NOTHING, |hash, n| hash_on(hash, &n.to_be_bytes()));
+            let hash = ranks.iter().copied().fold(OF_NOTHING, hash_short);
             let hash = instants
                 .iter()
                 .fold(hash, |hash, n| hash_on(hash, &n.to_be_bytes()));
-            let hash = latenesses
-                .iter()
-                .fold(hash, |hash, n| hash_on(hash, &n.to_be_bytes()));
+            let hash = latenesses.iter().copied().fold(hash, hash_short);
             certify_words(heap, *answer, hash)
         }
     }
@@ -128,7 +125,7 @@ fn slot_words(heap: Global, slot: &Slot) -> Result<String, AllocError> {
 fn held_hash<H: Holder>(holder: &H) -> u64 {
     (0..holder.count())
         .filter_map(|place| holder.at(place).ok())
-        .fold(OF_NOTHING, |hash, code| hash_on(hash, &code.to_be_bytes()))
+        .fold(OF_NOTHING, hash_short)
 }
 
 // The answers to the calls on a docket of the sheet, and what its holder still holds.
@@ -181,10 +178,7 @@ fn on_trace<I: Item>(
 pub(crate) fn docket_answer(heap: Global, body: &[u8]) -> Result<Option<String>, AllocError> {
     let k = number_at(body, 1, 2) as u16;
     let length = number_at(body, 3, 4) as usize;
-    let Some(rest) = body.get(7..) else {
-        return Ok(None);
-    };
-    let Some((trace, calls)) = rest.split_at_checked(length) else {
+    let Some((trace, calls)) = cut(body, 7, length) else {
         return Ok(None);
     };
     let kind = Kind::try_from(body[0]).unwrap_or(Kind::CountingQueue);

@@ -1,5 +1,6 @@
 // The hash by which long contents are compared.
 ghost use Rattle.std.specs.Prelude.{◌≡◌, ℕ};
+ghost use Rattle.std.specs.Int.{to_be_bytes, w16};
 ghost use Rattle.comparison.specs.Hashes.{hashed};
 
 // The hash of no bytes.
@@ -13,4 +14,11 @@ pub(crate) fn hash_on(before: u64, bytes: &[u8]) -> u64
         before,
         |hash, byte| (hash ^ u64::from(*byte)).wrapping_mul(1099511628211),
     )
+}
+
+// The hash of a number of 16 bits, its highest byte first, after what gave the hash `before`.
+pub(crate) fn hash_short(before: u64, number: u16) -> u64
+    ensures { result ≡ hashed before (to_be_bytes w16 number) }
+{
+    hash_on(before, &number.to_be_bytes())
 }

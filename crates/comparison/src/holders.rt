@@ -1,6 +1,7 @@
 // Cases of calls on a holder.
-ghost use Rattle.std.specs.Prelude.{◌<◌, length, Some, None};
+ghost use Rattle.std.specs.Prelude.{length};
 ghost use Rattle.std.specs.Iterator.{at_most};
+ghost use Rattle.comparison.specs.Behind.{IsShorterBehind};
 
 use crate::numbers::next_number;
 use crate::words::holder_words;
@@ -14,7 +15,7 @@ use turns::calls::{HolderCall, answer_to};
 
 // The call at the front of the bytes, and the bytes behind it; none where no whole call stands there.
 fn next_call(bytes: &[u8]) -> Option<(HolderCall, &[u8])>
-    ensures { elim result [ Some c ↦ length c.1.now < length bytes.now | None ↦ Unit {0} ] }
+    ensures { IsShorterBehind bytes.now result }
 {
     let (letter, behind) = bytes.split_first()?;
     match letter {

@@ -1,5 +1,5 @@
 // Cases of items: a number unpacked and packed again.
-ghost use Rattle.std.specs.Prelude.{◌≡◌, Ok, Err};
+ghost use Rattle.std.specs.Prelude.{◌≡◌, Err, MatchResult};
 
 use crate::words::item_words;
 use item::fault::ItemFault;
@@ -10,7 +10,7 @@ use std::alloc::{AllocError, Global};
 
 // The number of the item that the number names.
 fn packed_again<I: Item>(number: u64) -> Result<u64, ItemFault>
-    ensures { elim result [ Ok n ↦ n ≡ number | Err e ↦ I.Item.named number ≡ Err e ] }
+    ensures { MatchResult result (λ n. n ≡ number) (λ e. I.Item.named number ≡ Err e) }
 {
     Ok(I::unpack(number)?.pack())
 }
@@ -26,6 +26,7 @@ pub(crate) fn item_answer(heap: Global, body: &[u8]) -> Result<Option<String>, A
         return Ok(None);
     }
     let number = number_at(body, 1, 8);
+    // Kept (no plainer): the item type is known at run time only, and a match is what picks a type then.
     let answer = match body[0] {
         0 => packed_again::<item::ticket::Ticket>(number),
         1 => packed_again::<item::stamp::Stamp>(number),

@@ -2,6 +2,7 @@
 ghost use Rattle.std.specs.Prelude.{◌≡◌};
 
 use crate::hash::{OF_NOTHING, hash_on};
+use crate::numbers::cut;
 use examination::examining::{blank_records, has_stamps};
 use frame::order::Order;
 use item::item::Item;
@@ -73,10 +74,7 @@ fn readings<I: Item>(
 pub(crate) fn reading_answer(heap: Global, body: &[u8]) -> Result<Option<String>, AllocError> {
     let room = number_at(body, 0, 2) as usize;
     let length = number_at(body, 2, 4) as usize;
-    let Some(rest) = body.get(6..) else {
-        return Ok(None);
-    };
-    let Some((first, second)) = rest.split_at_checked(length) else {
+    let Some((first, second)) = cut(body, 6, length) else {
         return Ok(None);
     };
     // Kept (no plainer): the item type is known at run time only, and a choice of calls is what picks a type then.
@@ -124,6 +122,7 @@ pub(crate) fn on_sheet<I: Item, F: FnOnce(&Sheet<I>) -> Result<String, AllocErro
 }
 
 // The operations of a trace, written with another kind, k and order into so many bytes.
+// Kept (no plainer): the kind is a number here, since `write` has to refuse a wrong one.
 fn writing<I: Item>(
     heap: Global,
     trace: &[u8],
@@ -144,10 +143,7 @@ pub(crate) fn writing_answer(heap: Global, body: &[u8]) -> Result<Option<String>
     let k = number_at(body, 1, 2) as u16;
     let size = number_at(body, 3, 2) as usize;
     let count = number_at(body, 5, 2) as usize;
-    let Some(rest) = body.get(7..) else {
-        return Ok(None);
-    };
-    let Some((order, trace)) = rest.split_at_checked(2 * count) else {
+    let Some((order, trace)) = cut(body, 7, 2 * count) else {
         return Ok(None);
     };
     let order = Order::new(order).numbers(heap)?;
