@@ -1,30 +1,39 @@
--- The table as it is filled. Assumes nothing.
-use Rattle.std.proofs.Common.{◌≡◌, ℕ, zero, suc, ◌+◌, ◌<◌, false, List, [], ◌∷◌, ◌++◌, map, length, get_or, take, set, replicate, sym, refl, ap, ◌∙◌, arith}
-use Rattle.std.proofs.lemmas.List.{map-set, take_more, take_more_set, length-map}
+-- A table that was filled entry by entry, before any step. Assumes nothing.
+use Rattle.std.proofs.Common.{◌≡◌, ℕ, ◌<◌, ◌≤◌, false, List, map, length, get_or, take, refl, ap, ◌∙◌, ⊎_elim, arith}
+use Rattle.std.proofs.lemmas.List.{get_or_past, ext_get_or}
+use Rattle.std.proofs.lemmas.Bool.{cases_lt}
+use Rattle.std.specs.Fn.{Mut, Called}
+use Rattle.std.specs.Array.{IsFromFnResult}
 use Rattle.order.specs.declared.operation.Paired.{Paired}
 use Rattle.docket.specs.declared.entry.Entry.{Entry}
-use Rattle.docket.specs.Kept.{blank, entry_of}
+use Rattle.docket.specs.Kept.{nothing, fresh, blank, entry_of}
 use Rattle.docket.specs.InStep.{paired_in}
+use Rattle.docket.proofs.Made.{made}
+use Rattle.docket.proofs.Table.{op_at, length_ops}
 
-pub all_blank : (n x : ℕ) → entry_of (replicate n blank) x ≡ blank
-all_blank zero x = refl
-all_blank (suc n) zero = refl
-all_blank (suc n) (suc x) = all_blank n x
+-- the entry of number x, where ps are the operations
+abbrev pub entry_before : List Paired → ℕ → Entry
+entry_before ps x = fresh (get_or ps x nothing)
 
-abbrev pub fresh : Paired → Entry
-fresh p = record { paired = p; late = 0; placed = false }
+-- n entries that calls made of the operations ps, and of nothing past them
+module _ {F : Type 0} {g : Mut F (ℕ × Unit {0}) Entry} {f : F} {es : List Entry} {n : ℕ} (filled : IsFromFnResult g f es n) (ps : List Paired) (call : (x : ℕ) (y : Entry) (q : F) → Called g f (x, tt) y q → (y ≡ entry_before ps x) × (q ≡ f)) where
+  at_any : {Y : Type 0} (part : Entry → Y) (y : Y) → ((p : Paired) → part (fresh p) ≡ y) → (x : ℕ) → part (entry_of es x) ≡ y
+  at_any part y all x =
+      ⊎_elim
+      (λ (h : x < n). ap part (made es (entry_before ps) call filled x blank h) ∙ all (get_or ps x nothing))
+      (λ (h : n ≤ x). ap part (get_or_past es x blank (omega (arith, filled.long))) ∙ all nothing)
+      (cases_lt x n)
 
-pub keeps_fresh : {Y : Type 0} (F : Entry → Y) (y : Y) (es : List Entry) (i x : ℕ) (p : Paired) → F (fresh p) ≡ y → F (entry_of es x) ≡ y → F (entry_of (set es i (fresh p)) x) ≡ y
-keeps_fresh F y [] i x p a b = b
-keeps_fresh F y (e ∷ es) zero zero p a b = a
-keeps_fresh F y (e ∷ es) zero (suc x) p a b = b
-keeps_fresh F y (e ∷ es) (suc i) zero p a b = b
-keeps_fresh F y (e ∷ es) (suc i) (suc x) p a b = keeps_fresh F y es i x p a b
+  pub none_late : (x : ℕ) → (entry_of es x).late ≡ 0
+  none_late = at_any {Y = ℕ} (λ (e : Entry). e.late) 0 (λ p. refl)
 
--- the next operation is copied
-pub table_more : (es : List Entry) (qs : List Paired) (i : ℕ) (q : Paired) → i < length es → i < length qs → q ≡ get_or qs i q → take i (map paired_in es) ≡ take i qs
-    → take (i + 1) (map paired_in (set es i (fresh q))) ≡ take (i + 1) qs
-table_more es qs i q h l at e =
-    ap (take (i + 1)) (map-set paired_in es i (fresh q))
-    ∙ take_more_set (map paired_in es) i q (omega (arith, length-map es paired_in))
-    ∙ ap (λ (v : List Paired). v ++ q ∷ []) e ∙ ap (λ (v : Paired). take i qs ++ v ∷ []) at ∙ sym (take_more qs i q l)
+  pub none_placed : (x : ℕ) → (entry_of es x).placed ≡ false
+  none_placed = at_any (λ (e : Entry). e.placed) false (λ p. refl)
+
+  pub table_is : (count : ℕ) → count ≡ length ps → count ≤ n → take count (map paired_in es) ≡ ps
+  table_is count all few =
+      let long = length_ops es count (omega (arith, filled.long)) in
+      ext_get_or nothing (take count (map paired_in es)) ps (omega (arith, long, all))
+      (λ i h.
+      let i' : i < count = omega (arith, h, long) in
+      op_at es count i (omega (arith, filled.long)) i' ∙ ap paired_in (made es (entry_before ps) call filled i blank (omega arith)))

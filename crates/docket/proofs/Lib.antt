@@ -9,3 +9,4 @@ pub mod Lifts
 pub mod Sums
 pub mod Certified
 pub mod Slotted
+pub mod Made

@@ -1,10 +1,10 @@
 // A ledger made from a sheet.
-ghost use Rattle.std.specs.Prelude.{◌≡◌, ℕ, Some};
+ghost use Rattle.std.specs.Prelude.{◌≡◌, ℕ, Some, slice_index_or};
 ghost use Rattle.std.specs.List.{slice_get};
 ghost use Rattle.sheet.specs.Sheets.{entered};
 ghost use Rattle.docket.specs.Pairs.{paired_of, paired_all};
 ghost use Rattle.docket.specs.InStep.{ops_of};
-ghost use Rattle.docket.specs.Kept.{entry_of};
+ghost use Rattle.docket.specs.Kept.{nothing, fresh, entry_of};
 
 use crate::entry::Entry;
 use crate::ledger::Ledger;
@@ -13,6 +13,7 @@ use item::item::Item;
 use order::operation::{Deed, Paired};
 use sheet::operation::{Method, Operation};
 use sheet::sheet::Sheet;
+use std::array;
 
 // The operation of that number, paired.
 pub(crate) fn paired<I: Item>(sheet: &Sheet<I>, number: usize, operation: &Operation<I>) -> Paired
@@ -35,6 +36,22 @@ pub(crate) fn paired<I: Item>(sheet: &Sheet<I>, number: usize, operation: &Opera
     }
 }
 
+// The entry of the operation of that number, before any step. Past the operations it is that of nothing.
+fn entry_at<I: Item>(sheet: &Sheet<I>, number: usize) -> Entry
+    ensures { result ≡ fresh (slice_index_or (paired_all I.Item.number (entered sheet.now)) number nothing) }
+{
+    let operation = match sheet.all().get(number) {
+        Some(operation) => paired(sheet, number, operation),
+        None => Paired {
+            deed: Deed::Add,
+            thread: 0,
+            start: 0,
+            end: 0,
+        },
+    };
+    Entry::from(operation)
+}
+
 // A ledger of the operations of the sheet, with no step placed.
 pub(crate) fn copied<I: Item>(sheet: &Sheet<I>, k: u16) -> Ledger
     ensures table { ops_of result ≡ paired_all I.Item.number (entered sheet.now) }
@@ -42,26 +59,11 @@ pub(crate) fn copied<I: Item>(sheet: &Sheet<I>, k: u16) -> Ledger
     ensures placed { result.placed ≡ 0 }
     ensures bound { result.k ≡ k }
 {
-    let nothing = Entry::from(Paired {
-        deed: Deed::Add,
-        thread: 0,
-        start: 0,
-        end: 0,
-    });
-    let mut entries = [nothing; 1024];
-    let operations = sheet.all();
-    for (number, operation) in operations.iter().enumerate() {
-        // Kept (proof): by index, since of a zip with `iter_mut` no proof knows an element afterwards.
-        entries[number] = Entry::from(paired(sheet, number, operation));
-    }
     Ledger {
-        entries,
-        count: operations.len() as u16,
+        entries: array::from_fn(|number| entry_at(sheet, number)),
+        count: sheet.count() as u16,
         k,
-        steps: [Step {
-            operation: 0,
-            rank: 0,
-        }; 1024],
+        steps: [Step::default(); 1024],
         placed: 0,
     }
 }
