@@ -10,6 +10,7 @@ use crate::words::{certify_words, number_words, run_words};
 use calls::fault::{DocketFault, RefusalCode};
 use counting::queue::CountingQueue;
 use docket::attend::attend;
+use docket::buffers::OwnBuffers;
 use docket::slot::Slot;
 use examination::examining::has_stamps;
 use frame::kind::Kind;
@@ -39,9 +40,11 @@ fn certify_slot(
     latenesses: u16,
 ) -> Result<Slot, AllocError> {
     Ok(Slot::Certify {
-        ranks: vec![in heap; 0xffffu16; ranks as usize]?,
-        instants: vec![in heap; 0xffff_ffff_ffff_ffffu64; instants as usize]?,
-        latenesses: vec![in heap; 0xffffu16; latenesses as usize]?,
+        buffers: OwnBuffers {
+            ranks: vec![in heap; 0xffffu16; ranks as usize]?,
+            instants: vec![in heap; 0xffff_ffff_ffff_ffffu64; instants as usize]?,
+            latenesses: vec![in heap; 0xffffu16; latenesses as usize]?,
+        },
         answer: Err(DocketFault::NothingToLift),
     })
 }
@@ -106,9 +109,11 @@ fn slot_words(heap: Global, slot: &Slot) -> Result<String, AllocError> {
         } => run_words(heap, *new, *stopped),
         Slot::Lift { answer } => number_words(heap, "lifted", *answer),
         Slot::Certify {
-            ranks,
-            instants,
-            latenesses,
+            buffers: OwnBuffers {
+                ranks,
+                instants,
+                latenesses,
+            },
             answer,
         } => {
             let hash = ranks.iter().copied().fold(OF_NOTHING, hash_short);

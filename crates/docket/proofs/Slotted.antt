@@ -1,6 +1,5 @@
 -- One slot filled, and one more. Assumes nothing.
-use Rattle.std.proofs.Common.{◌≡◌, ℕ, ◌+◌, ◌<◌, List, [], ◌∷◌, ◌++◌, map, length, get_or, take, drop, set, vec_items, Result, Vec, sym, refl, ap, ◌∙◌, subst, arith}
-use Rattle.std.specs.declared.alloc.Global.{Global}
+use Rattle.std.proofs.Common.{◌≡◌, ℕ, ◌+◌, ◌<◌, List, [], ◌∷◌, ◌++◌, map, length, get_or, take, drop, set, Result, sym, refl, ap, ◌∙◌, subst, arith}
 use Rattle.std.proofs.lemmas.List.{take_more, take_more_set, map_push, append_assoc, at_drop_more}
 use Rattle.std.specs.List.{AllZip}
 use Rattle.std.proofs.lemmas.List.Elements.{AllZip-push}
@@ -11,14 +10,16 @@ use Rattle.order.specs.declared.operation.Paired.{Paired}
 use Rattle.order.specs.Steps.{SeatRule}
 use Rattle.calls.specs.declared.fault.DocketFault.{DocketFault}
 use Rattle.docket.specs.declared.ledger.Ledger.{Ledger}
-use Rattle.docket.specs.InStep.{ops_of, steps_of, three}
+use Rattle.docket.specs.InStep.{ops_of, steps_of}
+use Rattle.docket.specs.Lent.{owned}
+use Rattle.docket.specs.declared.buffers.OwnBuffers.{OwnBuffers}
 use Rattle.calls.proofs.Sessions.{session}
 use Rattle.docket.specs.declared.slot.Slot.TheVariants.{Certify}
 use Rattle.calls.specs.Sessions.{Session}
 use Rattle.docket.specs.Slots.{Keeps, call_of, reply_of}
 
-pub keeps_certify : (s : Slot) (u v w x y z : Vec ℕ Global) (a r : Result Certificate DocketFault) → s ≡ Certify u v w a → Keeps s (Certify x y z r)
-keeps_certify s u v w x y z a r is = subst (λ (t : Slot). Keeps t (Certify x y z r)) (sym is) (three (vec_items x) (vec_items y) (vec_items z), refl)
+pub keeps_certify : (s : Slot) (b c : OwnBuffers) (a r : Result Certificate DocketFault) → s ≡ Certify b a → Keeps s (Certify c r)
+keeps_certify s b c a r is = subst (λ (t : Slot). Keeps t (Certify c r)) (sym is) (owned c, refl)
 
 -- ---- the slots in turn
 module _ (seat : SeatRule) (l m : Ledger) (ys zs : List Slot) (i : ℕ) (y z d : Slot)

@@ -1,12 +1,17 @@
--- Buffers that are lent. Assumes nothing.
-use Rattle.std.specs.Prelude.{◌≡◌}
+-- Buffers that are lent, and those that lend them. Assumes nothing.
+use Rattle.std.specs.Prelude.{◌≡◌, vec_items}
 use Rattle.calls.specs.Rules.{Buffers}
 use Rattle.docket.specs.declared.buffers.Buffers.{Buffers as Lent}
+use Rattle.docket.specs.declared.buffers.OwnBuffers.{OwnBuffers}
 use Rattle.docket.specs.InStep.{three}
 
--- what they hold
+-- what the lent ones hold
 abbrev pub held : Lent → Buffers
 held b = three b.ranks.now b.instants.now b.latenesses.now
+
+-- what the lenders hold
+abbrev pub owned : OwnBuffers → Buffers
+owned b = three (vec_items b.ranks) (vec_items b.instants) (vec_items b.latenesses)
 
 -- the slices that c holds are those that b held
 abbrev pub SameSlices : Lent → Lent → Type 0

@@ -4,23 +4,23 @@ use Rattle.calls.specs.Rules.{Buffers}
 use Rattle.calls.specs.Calls.{Call, Answer, place, run, lift, certify, to_place, to_run, to_lift, to_certify}
 use Rattle.docket.specs.declared.slot.Slot.{Slot}
 use Rattle.docket.specs.declared.slot.Slot.TheVariants.{Place, Run, Lift, Certify}
-use Rattle.docket.specs.InStep.{three}
+use Rattle.docket.specs.Lent.{owned}
 
 abbrev pub call_of : Slot → Call
 call_of (Place x a) = place x
 call_of (Run xs n s) = run (vec_items xs)
 call_of (Lift a) = lift
-call_of (Certify r i t a) = certify (three (vec_items r) (vec_items i) (vec_items t))
+call_of (Certify b a) = certify (owned b)
 
 abbrev pub reply_of : Slot → Answer
 reply_of (Place x a) = to_place a
 reply_of (Run xs n s) = to_run n s
 reply_of (Lift a) = to_lift a
-reply_of (Certify r i t a) = to_certify a (three (vec_items r) (vec_items i) (vec_items t))
+reply_of (Certify b a) = to_certify a (owned b)
 
 -- what a slot asks stays, but for the buffers that a certificate is written into
 abbrev pub Keeps : Slot → Slot → Type 0
 Keeps (Place x a) z = call_of z ≡ place x
 Keeps (Run xs n s) z = call_of z ≡ run (vec_items xs)
 Keeps (Lift a) z = call_of z ≡ lift
-Keeps (Certify r i t a) z = (b : Buffers) × (call_of z ≡ certify b)
+Keeps (Certify o a) z = (b : Buffers) × (call_of z ≡ certify b)

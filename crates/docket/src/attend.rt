@@ -19,6 +19,7 @@ use item::item::Item;
 use sheet::sheet::Sheet;
 
 // Certifies into three slices.
+// Kept (proof): with `docket.certify(&mut buffers.lend())` in `fill` its clause `answer` stays open: what a `Vec` holds is known after a slice of it was lent as a parameter, and not after it was lent in a struct.
 fn certify_into<H: Holder>(
     docket: &Docket<H>,
     ranks: &mut [u16],
@@ -59,13 +60,13 @@ pub fn fill<H: Holder>(docket: &mut Docket<H>, slot: &mut Slot)
         Slot::Lift { answer } => {
             *answer = docket.lift();
         }
-        Slot::Certify {
-            ranks,
-            instants,
-            latenesses,
-            answer,
-        } => {
-            *answer = certify_into(docket, ranks, instants, latenesses);
+        Slot::Certify { buffers, answer } => {
+            *answer = certify_into(
+                docket,
+                &mut buffers.ranks,
+                &mut buffers.instants,
+                &mut buffers.latenesses,
+            );
         }
     }
 }

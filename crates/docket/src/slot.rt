@@ -1,4 +1,5 @@
 // Calls in a list, each with room for its answer.
+use crate::buffers::OwnBuffers;
 use calls::certificate::Certificate;
 use calls::fault::{DocketFault, RefusalCode};
 
@@ -19,9 +20,7 @@ pub enum Slot {
         answer: Result<u16, DocketFault>,
     },
     Certify {
-        ranks: Vec<u16>,
-        instants: Vec<u64>,
-        latenesses: Vec<u16>,
+        buffers: OwnBuffers,
         answer: Result<Certificate, DocketFault>,
     },
 }

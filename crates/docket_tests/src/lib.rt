@@ -6,6 +6,7 @@ mod lists {
     // Histories, lists of calls, and what was answered.
     use calls::certificate::Certificate;
     use calls::fault::{DocketFault, RefusalCode};
+    use docket::buffers::OwnBuffers;
     use docket::slot::Slot;
     use item::ticket::Ticket;
     use sheet::operation::{Method, Operation};
@@ -51,9 +52,11 @@ mod lists {
             stopped: nothing(),
         };
         let certify = Slot::Certify {
-            ranks: vec![in rt.alloc(); 9u16; order.len()]?,
-            instants: vec![in rt.alloc(); 9u64; order.len()]?,
-            latenesses: vec![in rt.alloc(); 9u16; order.len()]?,
+            buffers: OwnBuffers {
+                ranks: vec![in rt.alloc(); 9u16; order.len()]?,
+                instants: vec![in rt.alloc(); 9u64; order.len()]?,
+                latenesses: vec![in rt.alloc(); 9u16; order.len()]?,
+            },
             answer: Err(DocketFault::NothingToLift),
         };
         Ok(vec![in rt.alloc(); run, certify]?)
@@ -71,12 +74,11 @@ mod lists {
     pub fn granted(slots: &[Slot], r: &[u16], i: &[u64], l: &[u16]) -> Option<Certificate> {
         slots.iter().find_map(|slot| match slot {
             Slot::Certify {
-                ranks,
-                instants,
-                latenesses,
+                buffers,
                 answer: Ok(certificate),
-            } if ranks.as_slice() == r && instants.as_slice() == i && latenesses.as_slice() == l =>
-                { Some(*certificate) }
+            } if buffers.ranks.as_slice() == r
+                && buffers.instants.as_slice() == i
+                && buffers.latenesses.as_slice() == l => { Some(*certificate) }
             _ => None,
         })
     }
@@ -99,6 +101,7 @@ mod tests {
     use calls::certificate::Certificate;
     use calls::fault::RefusalCode;
     use docket::attend::attend;
+    use docket::buffers::OwnBuffers;
     use docket::slot::Slot;
     use holder::holder::Holder;
     use holder::queue::Queue;
@@ -170,6 +173,19 @@ mod tests {
             &[0, 1, 0, 0, 0, 0],
         );
         assert_eq!(rt; written, certificate(1, 1, 4));
+        Ok(())
+    }
+
+    #[test]
+    fn own_buffers(rt: HostRuntime) -> Result<(), Fail> {
+        let mut own = OwnBuffers::new(rt.alloc(), 2)?;
+        let lent = own.lend();
+        lent.ranks[1] = 3;
+        lent.instants[0] = 5;
+        lent.latenesses[1] = 7;
+        assert_eq!(rt; own.ranks.as_slice(), [0, 3].as_slice());
+        assert_eq!(rt; own.instants.as_slice(), [5, 0].as_slice());
+        assert_eq!(rt; own.latenesses.as_slice(), [0, 7].as_slice());
         Ok(())
     }
 

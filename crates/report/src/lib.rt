@@ -1,7 +1,6 @@
 // From the bytes of a trace to the text that is printed.
 #![tactic(auto)]
 
-mod buffers;
 pub mod line;
 pub mod lines;
 pub mod report;

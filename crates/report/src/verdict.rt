@@ -8,12 +8,11 @@ ghost use Rattle.docket.specs.Pairs.{paired_all};
 ghost use Rattle.examination.specs.Kinds.{seat_of};
 ghost use Rattle.report.specs.Reports.{verdict_in, verdict_of_order, refusing, granting, answering};
 
-use crate::buffers::OwnBuffers;
 use crate::line::CertifiedLine;
 use crate::lines::{late_lines, step_lines};
 use calls::certificate::Certificate;
 use counting::queue::CountingQueue;
-use docket::buffers::Buffers;
+use docket::buffers::{Buffers, OwnBuffers};
 use examination::certifying::certify_order;
 use examination::proposal::Proposal;
 use frame::kind::Kind;

@@ -1,4 +1,5 @@
-use Rattle.std.proofs.Common.{◌≡◌, length, IfOk, ap, ◌∙◌, arith}
+use Rattle.std.proofs.Common.{◌≡◌, ℕ, length, IfOk, ap, ◌∙◌, arith}
+use Rattle.std.proofs.lemmas.List.{length-replicate}
 use Rattle.std.proofs.lemmas.Result.{IfOk-weaker}
 use Rattle.sheet.specs.Sheets.{entered}
 use Rattle.calls.specs.Rules.{Buffers}
@@ -10,13 +11,14 @@ use Rattle.report.proofs.verdict.verdict.Goals as goal
 pub returns : goal.returns
 returns g c =
     let e = c.certify_order-answer.ensures in
-    let long = c.in_ok-own.ensures in
+    let zeros = c.lend-buffers.ensures ∙ c.in_ok-own.ensures in
+    let long = length-replicate {A = ℕ} c.max-room.result 0 in
     let said : IfOk c.answered.result (λ r. verdict_in r ≡ verdict_of_order g.I.Item g.H.Holder.seat (entered c.args.sheet.now) c.args.proposal.now.k c.args.proposal.now.order.now) =
     IfOk-weaker c.answered.result _ _
     (λ r h.
     h ∙ order_said g.I.Item g.H.Holder.seat (entered c.args.sheet.now) c.args.proposal.now.k c.args.proposal.now.order.now
-    (held c.lend-buffers.result) (omega (arith, long.ranks, ap (λ (z : Buffers). length z.ranks) c.lend-buffers.ensures)) (omega (arith, long.instants, ap (λ (z : Buffers). length z.instants) c.lend-buffers.ensures))
-    (omega (arith, long.latenesses, ap (λ (z : Buffers). length z.latenesses) c.lend-buffers.ensures)) c.certify_order-answer.result
+    (held c.lend-buffers.result) (omega (arith, ap (λ (z : Buffers). length z.ranks) zeros, long)) (omega (arith, ap (λ (z : Buffers). length z.instants) zeros, long))
+    (omega (arith, ap (λ (z : Buffers). length z.latenesses) zeros, long)) c.certify_order-answer.result
     (held c.certify_order-answer.new.buffers) e.answer e.written)
     c.answered.ensures in
     record {
