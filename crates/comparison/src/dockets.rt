@@ -13,6 +13,7 @@ use docket::attend::attend;
 use docket::buffers::OwnBuffers;
 use docket::slot::Slot;
 use examination::examining::has_stamps;
+use examination::kind::any_kind;
 use frame::kind::Kind;
 use frame::order::Order;
 use holder::holder::Holder;
@@ -77,6 +78,7 @@ fn next_slot(heap: Global, bytes: &[u8]) -> Option<(Result<Slot, AllocError>, &[
 }
 
 // Slots with the calls that the bytes say, one after another.
+// Kept (no plainer): as one generic iterator with `Slots`, `Calls` and `Cases` it takes a trait with a law, for three bodies of three lines.
 #[derive(Drop)]
 struct Slots<'a> {
     heap: Global,
@@ -146,14 +148,12 @@ fn attended<I: Item, H: Holder + Drop>(
     let mut text = String::from_str(heap, "docket ")?;
     for slot in slots.as_slice() {
         let words = slot_words(heap, slot)?;
-        text.push_str(words.as_str())?;
-        text.push_str("; ")?;
+        write!(text, "{words}; ")?;
     }
     let holder = docket.close();
     let count = holder.count();
     let hash = held_hash(&holder);
-    let held = format!(in heap; "held {count} {hash}")?;
-    text.push_str(held.as_str())?;
+    write!(text, "held {count} {hash}")?;
     Ok(text)
 }
 
@@ -186,7 +186,7 @@ pub(crate) fn docket_answer(heap: Global, body: &[u8]) -> Result<Option<String>,
     let Some((trace, calls)) = cut(body, 7, length) else {
         return Ok(None);
     };
-    let kind = Kind::try_from(body[0]).unwrap_or(Kind::CountingQueue);
+    let kind = any_kind(body[0]);
     // Kept (no plainer): the item type is known at run time only, and a choice of calls is what picks a type then.
     let text = if has_stamps(trace) {
         on_trace::<item::stamp::Stamp>(heap, kind, k, trace, calls)?

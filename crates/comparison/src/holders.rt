@@ -6,6 +6,7 @@ ghost use Rattle.comparison.specs.Behind.{IsShorterBehind};
 use crate::numbers::next_number;
 use crate::words::holder_words;
 use counting::queue::CountingQueue;
+use examination::kind::any_kind;
 use frame::kind::Kind;
 use holder::holder::Holder;
 use holder::queue::Queue;
@@ -19,22 +20,30 @@ fn next_call(bytes: &[u8]) -> Option<(HolderCall, &[u8])>
 {
     let (letter, behind) = bytes.split_first()?;
     match letter {
-        0 => return Some((HolderCall::Clear, behind)),
-        1 => return Some((HolderCall::Count, behind)),
-        _ => {}
+        0 => Some((HolderCall::Clear, behind)),
+        1 => Some((HolderCall::Count, behind)),
+        2 => {
+            let (code, behind) = next_number(behind)?;
+            Some((HolderCall::Rank(code), behind))
+        }
+        3 => {
+            let (place, behind) = next_number(behind)?;
+            Some((HolderCall::At(place), behind))
+        }
+        4 => {
+            let (code, behind) = next_number(behind)?;
+            Some((HolderCall::Add(code), behind))
+        }
+        5 => {
+            let (code, behind) = next_number(behind)?;
+            Some((HolderCall::Take(code), behind))
+        }
+        _ => None,
     }
-    let (number, behind) = next_number(behind)?;
-    let call = match letter {
-        2 => HolderCall::Rank(number),
-        3 => HolderCall::At(number),
-        4 => HolderCall::Add(number),
-        5 => HolderCall::Take(number),
-        _ => return None,
-    };
-    Some((call, behind))
 }
 
 // The calls that the bytes say, one after another.
+// Kept (no plainer): as one generic iterator with `Slots`, `Calls` and `Cases` it takes a trait with a law, for three bodies of three lines.
 #[derive(Drop)]
 struct Calls<'a>(&'a [u8]);
 
@@ -55,8 +64,7 @@ fn answers_of<H: Holder>(heap: Global, holder: &mut H, calls: &[u8]) -> Result<S
     let mut text = String::from_str(heap, "holder")?;
     for call in Calls(calls) {
         let words = holder_words(heap, answer_to(holder, call))?;
-        text.push_str(" ")?;
-        text.push_str(words.as_str())?;
+        write!(text, " {words}")?;
     }
     Ok(text)
 }
@@ -67,7 +75,7 @@ pub(crate) fn holder_answer(heap: Global, body: &[u8]) -> Result<Option<String>,
         return Ok(None);
     };
     // Kept (no plainer): the kind is known at run time only, and a match is what picks a holder's type then.
-    let text = match Kind::try_from(*kind).unwrap_or(Kind::CountingQueue) {
+    let text = match any_kind(*kind) {
         Kind::Queue => answers_of(heap, &mut Queue::new(), calls)?,
         Kind::Stack => answers_of(heap, &mut Stack::new(), calls)?,
         Kind::CountingQueue => answers_of(heap, &mut CountingQueue::new(), calls)?,

@@ -43,8 +43,7 @@ fn reading_words<I: Item>(
     let answer = match read(bytes, sheet) {
         Ok(accepted) => {
             let kind = u8::from(accepted.kind);
-            let k = accepted.k;
-            format!(in heap; "accepted kind {kind} k {k}")?
+            format!(in heap; "accepted kind {kind} k {}", accepted.k)?
         }
         Err(fault) => {
             let refusal = Refusal::from(fault);
@@ -122,7 +121,7 @@ pub(crate) fn on_sheet<I: Item, F: FnOnce(&Sheet<I>) -> Result<String, AllocErro
 }
 
 // The operations of a trace, written with another kind, k and order into so many bytes.
-// Kept (no plainer): the kind is a number here, since `write` has to refuse a wrong one.
+// Kept (rule of the project): the kind is a number here, since `write` has to refuse a wrong one.
 fn writing<I: Item>(
     heap: Global,
     trace: &[u8],

@@ -30,10 +30,10 @@ pub(crate) fn number_words(
 pub(crate) fn run_words(heap: Global, new: u16, stopped: RefusalCode) -> Result<String, AllocError>
     ensures { IfOk result (λ s. string_bytes s ≡ words_of_run new stopped) }
 {
-    let number = stopped.number;
-    let place = stopped.place;
-    let detail = stopped.detail;
-    format!(in heap; "ran {new} stopped {number} {place} {detail}")
+    format!(in heap;
+        "ran {new} stopped {} {} {}",
+        stopped.number, stopped.place, stopped.detail
+    )
 }
 
 // A certificate or the refusal, and the hash of the buffers.
@@ -46,9 +46,11 @@ pub(crate) fn certify_words(
 {
     match answer {
         Ok(certificate) => {
-            let total = certificate.total;
-            let largest = certificate.largest;
-            let first = certificate.first;
+            let Certificate {
+                total,
+                largest,
+                first,
+            } = certificate;
             format!(in heap; "certified {total} {largest} {first} {hash}")
         }
         Err(fault) => {

@@ -37,11 +37,7 @@ mod lists {
     }
 
     pub fn nothing() -> RefusalCode {
-        RefusalCode {
-            number: 0,
-            place: 0,
-            detail: 0,
-        }
+        RefusalCode::default()
     }
 
     // A run of the order, and a certify with a buffer entry for each of its numbers.
@@ -132,9 +128,9 @@ mod tests {
         let mut memory = [six()[0]; 6];
         let mut sheet = Sheet::new(&mut memory);
         for operation in six() {
-            if sheet.enter(operation).is_err() {
-                return Err(Fail::new("an operation was not entered"));
-            }
+            let _ = sheet
+                .enter(operation)
+                .map_err(|_| Fail::new("an operation was not entered"))?;
         }
         let mut slots = examination(&[0, 1, 2, 3, 4, 5], rt)?;
         let docket = attend(&sheet, holder, k, &mut slots);
@@ -197,13 +193,15 @@ mod tests {
             let item = Ticket {
                 number: u32::from(i),
             };
-            if sheet.enter(during(Method::Add(item), 0, 0)).is_err() {
-                return Err(Fail::new("an add was not entered"));
-            }
+            let add = during(Method::Add(item), 0, 0);
+            let _ = sheet
+                .enter(add)
+                .map_err(|_| Fail::new("an add was not entered"))?;
         }
-        if sheet.enter(during(Method::FoundEmpty, 0, 0)).is_err() {
-            return Err(Fail::new("the found-empty was not entered"));
-        }
+        let empty = during(Method::FoundEmpty, 0, 0);
+        let _ = sheet
+            .enter(empty)
+            .map_err(|_| Fail::new("the found-empty was not entered"))?;
         let order: Vec<u16> = (0..1024u16).collect(rt.alloc())?;
         let mut slots = examination(&order, rt)?;
         let docket = attend(&sheet, Queue::new(), k, &mut slots);

@@ -3,7 +3,7 @@ ghost use Rattle.std.specs.Prelude.{◌≡◌};
 ghost use Rattle.frame.specs.Kinds.{kind_number};
 ghost use Rattle.docket.specs.Lent.{held, SameSlices};
 ghost use Rattle.docket.specs.Pairs.{sheet_ops};
-ghost use Rattle.examination.specs.Kinds.{seat_of};
+ghost use Rattle.examination.specs.Kinds.{any_kind, seat_of};
 ghost use Rattle.examination.specs.Orders.{order_answer, order_written};
 
 use crate::certifying::certify_order;
@@ -37,8 +37,15 @@ pub fn certify_of_kind<I: Item>(
     }
 }
 
-// The same for the number of a kind: 0 the queue, 1 the stack, and else the queue by counting.
+// The kind of a number: 0 the queue, 1 the stack, and else the queue by counting.
 // Kept (no plainer): every number is taken, so that none can be refused; a `Kind` goes to `certify_of_kind`.
+pub fn any_kind(number: u8) -> Kind
+    ensures { result ≡ any_kind number }
+{
+    Kind::try_from(number).unwrap_or(Kind::CountingQueue)
+}
+
+// The same for the number of a kind, as `any_kind` has it.
 pub fn certify_by_kind<I: Item>(
     sheet: &Sheet<I>,
     kind: u8,
@@ -49,6 +56,5 @@ pub fn certify_by_kind<I: Item>(
     ensures written { held buffers.new ≡ order_written (seat_of kind) (sheet_ops I.Item.number sheet.now) proposal.now.k proposal.now.order.now (held buffers.old) }
     ensures lenders { SameSlices buffers.old buffers.new }
 {
-    let kind = Kind::try_from(kind).unwrap_or(Kind::CountingQueue);
-    certify_of_kind(sheet, kind, proposal, buffers)
+    certify_of_kind(sheet, any_kind(kind), proposal, buffers)
 }

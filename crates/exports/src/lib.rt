@@ -17,7 +17,7 @@ use report::report::report_trace;
 use std::alloc::Global;
 
 // What came of an examination, as plain numbers.
-// Kept (no plainer): callers in C read numbers, so an outcome, a layer and a refusal are numbers here.
+// Kept (C interface): callers in C read numbers, so an outcome, a layer and a refusal are numbers here.
 #[derive(Clone, Copy, Default)]
 #[repr(C)]
 pub struct PlainOutcome {
@@ -35,7 +35,7 @@ pub struct PlainOutcome {
 }
 
 // The number of a layer, from the bytes upward.
-// Kept (no plainer): callers in C have no Layer; a From would have to stand in the crate of Layer, which has no use for these numbers.
+// Kept (C interface): callers in C have no Layer; a From would have to stand in the crate of Layer, which has no use for these numbers.
 fn layer_number(layer: Layer) -> u8
     ensures { result ≡ number_of_layer layer }
 {
@@ -111,7 +111,7 @@ pub extern "C" fn examiner_certify(
 
 // Lays the text that is printed of a trace over the front of the memory, where it fits, and answers how long it is; 0 where
 // there was not enough memory to make it.
-// Kept (no plainer): a caller in C reads one number, so an Option is 0 here, which no text has as its length.
+// Kept (C interface): a caller in C reads one number, so an Option is 0 here, which no text has as its length.
 #[unsafe(no_mangle)]
 pub extern "C" fn examiner_report(heap: Global, bytes: &[u8], text: &mut [u8]) -> usize {
     report_trace(heap, bytes).map_or(0, |report| lay(report.text.as_bytes(), text))
@@ -119,7 +119,7 @@ pub extern "C" fn examiner_report(heap: Global, bytes: &[u8], text: &mut [u8]) -
 
 // Lays the answer to a case over the front of the memory, where it fits, and answers how long it is; 0 where there was not
 // enough memory to make it.
-// Kept (no plainer): a caller in C reads one number, so an Option is 0 here, which no answer has as its length.
+// Kept (C interface): a caller in C reads one number, so an Option is 0 here, which no answer has as its length.
 #[unsafe(no_mangle)]
 pub extern "C" fn examiner_answer(heap: Global, letter: u8, body: &[u8], text: &mut [u8]) -> usize {
     answer_case(heap, letter, body).map_or(0, |answer| lay(answer.as_bytes(), text))

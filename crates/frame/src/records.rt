@@ -33,8 +33,8 @@ impl<'a> Trace<'a> {
         &body.as_chunks().0[..self.count()]
     }
 
-    // Kept (rule of the project): a record is the part of the bytes at 8 + 24 x number.
     // The bytes of the record numbered `i`, a part of the trace, and none past the last.
+    // Kept (rule of the project): by the rules a record is taken as the part of the bytes at 8 + 24 x number, and so it is here; `records` says that the same parts lie in a row.
     pub fn record(&self, i: usize) -> Option<&'a [u8]>
         ensures { option_map (λ x. x.now) result ≡ (if nat_lt i (record_count self.now.bytes.now) then Some (record_at i self.now.bytes.now) else None) }
     {

@@ -44,6 +44,7 @@ pub fn refused(heap: Global, refusal: Refusal) -> Result<Report, AllocError>
 }
 
 // What is printed of a granted certificate, from the buffers that it wrote.
+// Kept (no plainer): three lengths are asked for here and in `answered` alone; `step_lines` and `late_lines` ask each for its own.
 fn granted<I: Item>(
     heap: Global,
     sheet: &Sheet<I>,

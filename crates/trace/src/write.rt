@@ -76,7 +76,7 @@ pub(crate) fn write_of_kind<I: Item>(
 }
 
 // Writes the trace of a sheet's operations into the first bytes of `out`, or refuses and leaves it as it was.
-// Kept (no plainer): the kind comes as a number, since a wrong one is refused by the first of the checks here.
+// Kept (rule of the project): the kind comes as a number, since a wrong one is refused by the first of the checks here.
 pub fn write<I: Item>(
     sheet: &Sheet<I>,
     kind: u8,

@@ -45,7 +45,7 @@ pub(crate) fn change_latenesses<H: Holder, F: Fn(u16) -> u16>(
     requires callable { F.IsAlwaysCallable change }
     ensures { (f : ℕ → ℕ) → ((n r : ℕ) → F.post change n r → r ≡ f n) → entries.new ≡ changed_all (with_late f) entries.old (take passed (H.Holder.giving holder.now)) }
 {
-    // Kept (no plainer): a holder answers place by place, and has no list to lend.
+    // Kept (no plainer): a holder answers place by place; `filter_map(|place| holder.at(place).ok())` says this loop in more.
     for place in 0..passed {
         if let Ok(code) = holder.at(place) {
             let entry = &mut entries[code as usize];

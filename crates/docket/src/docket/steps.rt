@@ -11,7 +11,7 @@ use crate::docket::parts::{change_latenesses, rank_of, step};
 use calls::fault::{DocketFault, RefusalCode};
 use holder::holder::Holder;
 
-// Kept (no plainer): the clauses `table` and `bound` relate the docket before and after a call, and a type's invariant knows one moment.
+// Kept (no plainer): `table` and `bound` relate the docket before and after a call, which no type can hold; each is one equation, and those who cite them need them apart.
 impl<H: Holder> Docket<H> {
     // What placing the operation is answered: the rules in their order.
     #[tactic(auto, unfolding(crate::specs::Moves::judged))]
