@@ -22,7 +22,7 @@ fn lane_again(number: u8) -> Result<u64, ItemFault> {
 
 // The answer to a case of an item, or none where it is no such case.
 pub(crate) fn item_answer(heap: Global, body: &[u8]) -> Result<Option<String>, AllocError> {
-    if body.len() != 9 {
+    if body.len() < 9 {
         return Ok(None);
     }
     let number = number_at(body, 1, 8);
