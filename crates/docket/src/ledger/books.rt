@@ -7,6 +7,7 @@ ghost use Rattle.docket.specs.Moves.{with_flag, changed_at, replayed};
 use crate::docket::parts::step;
 use crate::entry::Entry;
 use crate::ledger::Ledger;
+use crate::ledger::sums::placed_ahead;
 use crate::step::Step;
 use holder::holder::Holder;
 
@@ -27,7 +28,7 @@ impl Ledger {
         &self.steps[..self.placed as usize]
     }
 
-    // Writes a new step down.
+    // Writes a new step down. What is placed from `first` on is passed.
     pub(crate) fn mark(&mut self, operation: u16, rank: u16)
         requires within { operation < self.old.count }
         requires new { (entry_of self.old.entries operation).placed ≡ false }
@@ -42,6 +43,8 @@ impl Ledger {
         self.entries[operation as usize].placed = true;
         self.steps[placed as usize] = Step { operation, rank };
         self.placed = placed + 1;
+        let rest = &self.entries[self.first as usize..self.count as usize];
+        self.first += placed_ahead(rest) as u16;
     }
 
     // Takes the last step out again, and answers it.
@@ -59,6 +62,7 @@ impl Ledger {
         let last = self.steps[placed as usize];
         self.entries[last.operation as usize].placed = false;
         self.placed = placed;
+        self.first = self.first.min(last.operation);
         last
     }
 

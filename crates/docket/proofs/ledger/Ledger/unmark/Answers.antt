@@ -1,6 +1,7 @@
-use Rattle.std.proofs.Common.{◌-◌, ◌<◌, get_or, arith, length-set}
+use Rattle.std.proofs.Common.{◌-◌, ◌<◌, false, get_or, arith, length-set}
 use Rattle.docket.specs.Kept.{numbers_in}
 use Rattle.docket.proofs.Books.{once_unmarked, flagged_unmarked}
+use Rattle.docket.proofs.Ahead.{behind_unmarked, soonest_flag}
 use Rattle.docket.proofs.Ties.{no_step, long_numbers, number_at}
 use Rattle.docket.proofs.ledger.Ledger.unmark.Goals as goal
 
@@ -15,4 +16,6 @@ invariant_of-self c =
       known = (λ i il. l.known i (omega arith));
       once = once_unmarked (numbers_in l.steps) l.placed _ c.requires (omega (arith, long_numbers l)) is l.once;
       flagged = flagged_unmarked (numbers_in l.steps) l.placed _ c.requires (omega (arith, long_numbers l)) is l.entries l.count (omega arith) l.once l.flagged;
+      behind = behind_unmarked l.first l.count _ c.min-self.result l.entries c.min-self.ensures l.behind;
+      soon = soonest_flag false l _;
     }
