@@ -102,7 +102,7 @@ module _ (ss : List ℕ) (m x : ℕ) (h : 0 < m) (l : m ≤ length ss) (is : x �
       (cases_eq y x)
 
 -- ---- the lowest that passes
-pub lowest_from : (t : ℕ → Bool) (p : Entry → Bool) (es : List Entry) (i : ℕ) → ((k : ℕ) → k < length es → t (i + k) ≡ p (entry_of es k)) → position_from p i es ≡ lowest t i (length es)
+lowest_from : (t : ℕ → Bool) (p : Entry → Bool) (es : List Entry) (i : ℕ) → ((k : ℕ) → k < length es → t (i + k) ≡ p (entry_of es k)) → position_from p i es ≡ lowest t i (length es)
 lowest_from t p [] i h = refl
 lowest_from t p (e ∷ es) i h =
     let z : i ≡ i + 0 = omega arith in

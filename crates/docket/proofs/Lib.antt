@@ -10,4 +10,4 @@ pub mod Sums
 pub mod Certified
 pub mod Slotted
 pub mod Made
-pub mod Ahead
+pub mod Awaiting

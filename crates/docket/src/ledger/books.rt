@@ -7,7 +7,6 @@ ghost use Rattle.docket.specs.Moves.{with_flag, changed_at, replayed};
 use crate::docket::parts::step;
 use crate::entry::Entry;
 use crate::ledger::Ledger;
-use crate::ledger::sums::placed_ahead;
 use crate::step::Step;
 use holder::holder::Holder;
 
@@ -28,7 +27,7 @@ impl Ledger {
         &self.steps[..self.placed as usize]
     }
 
-    // Writes a new step down. What is placed from `first` on is passed.
+    // Writes a new step down. The end of its operation is awaited no longer.
     pub(crate) fn mark(&mut self, operation: u16, rank: u16)
         requires within { operation < self.old.count }
         requires new { (entry_of self.old.entries operation).placed ≡ false }
@@ -43,11 +42,10 @@ impl Ledger {
         self.entries[operation as usize].placed = true;
         self.steps[placed as usize] = Step { operation, rank };
         self.placed = placed + 1;
-        let rest = &self.entries[self.first as usize..self.count as usize];
-        self.first += placed_ahead(rest) as u16;
+        self.awaited.set(operation, u64::MAX);
     }
 
-    // Takes the last step out again, and answers it.
+    // Takes the last step out again, and answers it. The end of its operation is awaited again.
     pub(crate) fn unmark(&mut self) -> Step
         requires { 0 < self.old.placed }
         ensures operation { result.operation ≡ slice_index (numbers_in self.old.steps) (self.old.placed - 1) }
@@ -60,9 +58,10 @@ impl Ledger {
     {
         let placed = self.placed - 1;
         let last = self.steps[placed as usize];
-        self.entries[last.operation as usize].placed = false;
+        let entry = &mut self.entries[last.operation as usize];
+        entry.placed = false;
+        self.awaited.set(last.operation, entry.paired.end);
         self.placed = placed;
-        self.first = self.first.min(last.operation);
         last
     }
 

@@ -1,5 +1,5 @@
 // A ledger made from a sheet.
-ghost use Rattle.std.specs.Prelude.{◌≡◌, ℕ, ◌<◌, ◌≤◌, Some, length, slice_index, slice_index_or};
+ghost use Rattle.std.specs.Prelude.{◌≡◌, ℕ, Some, slice_index_or};
 ghost use Rattle.std.specs.List.{slice_get};
 ghost use Rattle.sheet.specs.Sheets.{entered};
 ghost use Rattle.docket.specs.Pairs.{paired_of, paired_all};
@@ -8,6 +8,7 @@ ghost use Rattle.docket.specs.Kept.{nothing, fresh, entry_of};
 
 use crate::entry::Entry;
 use crate::ledger::Ledger;
+use crate::ledger::awaited::Awaited;
 use crate::step::Step;
 use item::item::Item;
 use order::operation::{Deed, Paired};
@@ -52,21 +53,6 @@ fn entry_at<I: Item>(sheet: &Sheet<I>, number: usize) -> Entry
     Entry::from(operation)
 }
 
-// At each number of the table the soonest end of the entries from that number on.
-fn soonest_ends(table: &[Entry]) -> [u64; 1024]
-    requires { length table.now ≤ 1024 }
-    ensures long { length result ≡ 1024 }
-    ensures least { (x y : ℕ) → x ≤ y → y < length table.now → slice_index result x ≤ (entry_of table.now y).paired.end }
-{
-    let mut soonest = [u64::MAX; 1024];
-    let mut least = u64::MAX;
-    for number in (0..table.len()).rev() {
-        least = least.min(table[number].paired.end);
-        soonest[number] = least;
-    }
-    soonest
-}
-
 // A ledger of the operations of the sheet, with no step placed.
 pub(crate) fn copied<I: Item>(sheet: &Sheet<I>, k: u16) -> Ledger
     ensures table { ops_of result ≡ paired_all I.Item.number (entered sheet.now) }
@@ -76,14 +62,13 @@ pub(crate) fn copied<I: Item>(sheet: &Sheet<I>, k: u16) -> Ledger
 {
     let entries: [Entry; 1024] = array::from_fn(|number| entry_at(sheet, number));
     let count = sheet.count();
-    let soonest = soonest_ends(&entries[..count]);
+    let awaited = Awaited::of(&entries[..count]);
     Ledger {
         entries,
         count: count as u16,
         k,
         steps: [Step::default(); 1024],
         placed: 0,
-        first: 0,
-        soonest,
+        awaited,
     }
 }

@@ -1,10 +1,9 @@
 // What the rules and a certificate read off the ledger.
-ghost use Rattle.std.specs.Prelude.{◌≡◌, ℕ, true, map, ◌<◌, ◌≤◌, not, ◌&&◌, max, ◌==◌, nat_lt, length, position, IfSome};
+ghost use Rattle.std.specs.Prelude.{◌≡◌, ℕ, map, ◌<◌, ◌≤◌, not, ◌&&◌, max, ◌==◌, nat_lt, length, position, IfSome};
 ghost use Rattle.std.specs.List.{fold, sum_by};
 ghost use Rattle.std.specs.Borrow.{Bor};
 ghost use Rattle.order.specs.Times.{earliest};
 ghost use Rattle.calls.specs.Rules.{lowest, over};
-ghost use Rattle.docket.specs.Kept.{entry_of};
 ghost use Rattle.docket.specs.Moves.{waits, not_placed};
 ghost use Rattle.docket.specs.InStep.{ops_of, steps_of, lates_of, errors_of, summed_up};
 
@@ -29,14 +28,6 @@ fn first_unplaced(table: &[Entry]) -> Option<usize>
     ensures first { result ≡ position (λ e. not e.placed) table.now }
 {
     table.iter().position(|entry| !entry.placed)
-}
-
-// How many entries at the front are placed.
-pub(crate) fn placed_ahead(table: &[Entry]) -> usize
-    ensures within { result ≤ length table.now }
-    ensures placed { (x : ℕ) → x < result → (entry_of table.now x).placed ≡ true }
-{
-    first_unplaced(table).unwrap_or(table.len())
 }
 
 // The sum of the rank errors.
@@ -75,17 +66,15 @@ fn write_over<T, F: Fn(&T) -> u16>(items: &[T], of: F, buffer: &mut [u16])
 }
 
 impl Ledger {
-    // The lowest operation that is not placed and had ended before `start`. The operations below `first` are placed, and
-    // where none of the others ends before `start`, nothing has to be looked at.
+    // The lowest operation that is not placed and had ended before `start`. The table is looked through only where there is
+    // one: the soonest end that is awaited says so.
     pub(crate) fn waiting(&self, start: u64) -> Option<u16>
         ensures { result ≡ lowest (waits self.now.entries start) 0 self.now.count }
     {
-        let first = self.first as usize;
-        if self.first == self.count || self.soonest[first] >= start {
+        if self.awaited.soonest() >= start {
             return None;
         }
-        let ahead = first_waiting(&self.table()[first..], start)?;
-        Some((first + ahead) as u16)
+        first_waiting(self.table(), start).map(|number| number as u16)
     }
 
     // The lowest operation that is not placed.

@@ -23,12 +23,11 @@ returns-clause-table g c =
 pub returns-clause-lates : goal.returns-clause-lates
 returns-clause-lates g c = none_late c.from_fn-entries.ensures.items (paired_all g.I.Item.number (entered c.args.sheet.now)) (λ x y q e. search rules)
 
-pub invariant_of-result-clause-soon : goal.invariant_of-result-clause-soon
-invariant_of-result-clause-soon g c =
+pub invariant_of-result-clause-ends : goal.invariant_of-result-clause-ends
+invariant_of-result-clause-ends g c =
     let es = c.from_fn-entries.result in
     let n = c.count-count.result in
-    let least = c.soonest_ends-soonest.ensures in
     let sheet = c.args.sheet.now in
     let few : n ≤ 1024 = omega (arith, c.count-count.ensures, length-take-le sheet.count sheet.records.now sheet.within, sheet.bounded) in
     let long : length (take n es) ≡ n = length-take-le n es (omega (arith, few, c.from_fn-entries.ensures.items.long)) in
-    (least.long, λ x y low h. omega (arith, ap (λ (e : Entry). e.paired.end) (get_or-take n es y blank h), least.least x y low (omega arith)))
+    λ x h off. c.of-awaited.ensures x (omega (arith, long, h)) ∙ ap (λ (e : Entry). e.paired.end) (get_or-take n es x blank h)
