@@ -10,3 +10,4 @@ pub mod Sums
 pub mod Certified
 pub mod Slotted
 pub mod Made
+pub mod Awaiting

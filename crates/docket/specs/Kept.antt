@@ -1,5 +1,5 @@
 -- What every ledger keeps. Assumes nothing.
-use Rattle.std.specs.Prelude.{◌≡◌, ℕ, ◌<◌, ◌≤◌, false, not, List, map, length, take, slice_index, slice_index_or}
+use Rattle.std.specs.Prelude.{◌≡◌, ℕ, ◌+◌, ◌/◌, ◌<◌, ◌≤◌, false, not, List, map, length, take, slice_index, slice_index_or}
 use Rattle.order.specs.declared.operation.Deed.TheVariants.{Add}
 use Rattle.order.specs.declared.operation.Paired.{Paired}
 use Rattle.calls.specs.Rules.{unplaced}
@@ -43,3 +43,16 @@ Known n ss m = (i : ℕ) → i < m → slice_index ss i < n
 -- an operation is flagged when it is among the placed steps
 abbrev pub Flagged : List Entry → ℕ → List ℕ → ℕ → Type 0
 Flagged es n ss m = (x : ℕ) → x < n → (entry_of es x).placed ≡ not (unplaced (take m ss) x)
+
+-- ---- the ends that are awaited
+-- the end that stands for the operation x
+abbrev pub end_at : List ℕ → ℕ → ℕ
+end_at ts x = slice_index ts (1024 + x)
+
+-- at each place from 2 on stands no sooner an instant than at half the place: so the soonest of all stands at 1
+abbrev pub Lesser : List ℕ → Type 0
+Lesser ts = (i : ℕ) → 2 ≤ i → i < 2048 → slice_index ts (i / 2) ≤ slice_index ts i
+
+-- for each of the n operations that is not placed stands its end
+abbrev pub Awaits : List ℕ → ℕ → List Entry → Type 0
+Awaits ts n es = (x : ℕ) → x < n → (entry_of es x).placed ≡ false → end_at ts x ≡ (entry_of es x).paired.end

@@ -1,16 +1,18 @@
 // The part of a docket that is no holder.
 ghost use Rattle.std.specs.Prelude.{ℕ, take};
 ghost use Rattle.giving.specs.Lists.{Once};
-ghost use Rattle.docket.specs.Kept.{Full, Few, Known, Flagged, numbers_in};
+ghost use Rattle.docket.specs.Kept.{Full, Few, Known, Flagged, Awaits, numbers_in};
 
 use crate::entry::Entry;
+use crate::ledger::awaited::Awaited;
 use crate::step::Step;
 
+pub mod awaited;
 pub mod books;
 pub mod copying;
 pub mod sums;
 
-// The table of the operations, the bound, and the placed steps.
+// The table of the operations, the bound, the placed steps, and the ends of the operations that are not placed.
 // Kept (rule of the project): arrays of 1,024 with a count beside each, which is memory of a fixed size.
 #[derive(Drop)]
 pub struct Ledger {
@@ -19,9 +21,11 @@ pub struct Ledger {
     pub k: u16,
     pub steps: [Step; 1024],
     pub placed: u16,
+    pub awaited: Awaited,
     ghost full: { Full entries steps },
     ghost few: { Few count placed },
     ghost known: { Known count (numbers_in steps) placed },
     ghost once: { Once (take placed (numbers_in steps)) },
     ghost flagged: { Flagged entries count (numbers_in steps) placed },
+    ghost ends: { Awaits awaited.least count entries },
 }

@@ -27,7 +27,7 @@ impl Ledger {
         &self.steps[..self.placed as usize]
     }
 
-    // Writes a new step down.
+    // Writes a new step down. The end of its operation is awaited no longer.
     pub(crate) fn mark(&mut self, operation: u16, rank: u16)
         requires within { operation < self.old.count }
         requires new { (entry_of self.old.entries operation).placed ≡ false }
@@ -42,9 +42,10 @@ impl Ledger {
         self.entries[operation as usize].placed = true;
         self.steps[placed as usize] = Step { operation, rank };
         self.placed = placed + 1;
+        self.awaited.set(operation, u64::MAX);
     }
 
-    // Takes the last step out again, and answers it.
+    // Takes the last step out again, and answers it. The end of its operation is awaited again.
     pub(crate) fn unmark(&mut self) -> Step
         requires { 0 < self.old.placed }
         ensures operation { result.operation ≡ slice_index (numbers_in self.old.steps) (self.old.placed - 1) }
@@ -57,7 +58,9 @@ impl Ledger {
     {
         let placed = self.placed - 1;
         let last = self.steps[placed as usize];
-        self.entries[last.operation as usize].placed = false;
+        let entry = &mut self.entries[last.operation as usize];
+        entry.placed = false;
+        self.awaited.set(last.operation, entry.paired.end);
         self.placed = placed;
         last
     }

@@ -8,6 +8,7 @@ ghost use Rattle.docket.specs.Kept.{nothing, fresh, entry_of};
 
 use crate::entry::Entry;
 use crate::ledger::Ledger;
+use crate::ledger::awaited::Awaited;
 use crate::step::Step;
 use item::item::Item;
 use order::operation::{Deed, Paired};
@@ -60,11 +61,15 @@ pub(crate) fn copied<I: Item>(sheet: &Sheet<I>, k: u16) -> Ledger
     ensures placed { result.placed ≡ 0 }
     ensures bound { result.k ≡ k }
 {
+    let entries: [Entry; 1024] = array::from_fn(|number| entry_at(sheet, number));
+    let count = sheet.count();
+    let awaited = Awaited::of(&entries[..count]);
     Ledger {
-        entries: array::from_fn(|number| entry_at(sheet, number)),
-        count: sheet.count() as u16,
+        entries,
+        count: count as u16,
         k,
         steps: [Step::default(); 1024],
         placed: 0,
+        awaited,
     }
 }

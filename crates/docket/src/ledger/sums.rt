@@ -66,10 +66,14 @@ fn write_over<T, F: Fn(&T) -> u16>(items: &[T], of: F, buffer: &mut [u16])
 }
 
 impl Ledger {
-    // The lowest operation that is not placed and had ended before `start`.
+    // The lowest operation that is not placed and had ended before `start`. The table is looked through only where there is
+    // one: the soonest end that is awaited says so.
     pub(crate) fn waiting(&self, start: u64) -> Option<u16>
         ensures { result ≡ lowest (waits self.now.entries start) 0 self.now.count }
     {
+        if self.awaited.soonest() >= start {
+            return None;
+        }
         first_waiting(self.table(), start).map(|number| number as u16)
     }
 

@@ -1,6 +1,7 @@
 use Rattle.std.proofs.Common.{◌<◌, refl, ◌∙◌, arith, rules}
 use Rattle.docket.specs.Moves.{one_less}
 use Rattle.docket.proofs.Table.{flags_kept}
+use Rattle.docket.proofs.Awaiting.{awaits_late}
 use Rattle.docket.proofs.Lifts.{lifted_ops, lifted_in_step}
 use Rattle.docket.proofs.docket.Docket.lift.Goals as goal
 
@@ -8,7 +9,7 @@ pub invariant_of-self : goal.invariant_of-self
 invariant_of-self g c =
     let u = c.unmark-last.new.self in
     let lowered = c.change_latenesses.ensures one_less (λ n r h. search rules) in
-    ((c.change_latenesses.auto.entries ∙ u.full.0, u.full.1), (u.few, (u.known, (u.once, (flags_kept one_less u _ _ lowered, tt)))))
+    ((c.change_latenesses.auto.entries ∙ u.full.0, u.full.1), (u.few, (u.known, (u.once, (flags_kept one_less u _ _ lowered, (awaits_late one_less u _ _ lowered, tt))))))
 
 pub invariant_of-self-2 : goal.invariant_of-self-2
 invariant_of-self-2 g c =

@@ -3,6 +3,7 @@ use Rattle.std.proofs.lemmas.Result.{err_from_is_err_and}
 use Rattle.docket.specs.declared.entry.Entry.{Entry}
 use Rattle.docket.specs.Moves.{with_late, one_more, with_flag, changed_at, changed_all}
 use Rattle.docket.proofs.Table.{flag_kept, flags_kept}
+use Rattle.docket.proofs.Awaiting.{awaits_late}
 use Rattle.docket.proofs.Turns.{judged_ok}
 use Rattle.docket.proofs.Ties.{judged_is, judged_rank_is, placed_ops, placed_in_step}
 use Rattle.docket.proofs.docket.Docket.place.Goals as goal
@@ -19,7 +20,7 @@ pub invariant_of-self : goal.invariant_of-self
 invariant_of-self g c =
     let l = c.args.self.now.ledger in
     let raised = c.change_latenesses.ensures one_more (λ n r h. search rules) in
-    ((c.change_latenesses.auto.entries ∙ l.full.0, l.full.1), (l.few, (l.known, (l.once, (flags_kept one_more l _ _ raised, tt)))))
+    ((c.change_latenesses.auto.entries ∙ l.full.0, l.full.1), (l.few, (l.known, (l.once, (flags_kept one_more l _ _ raised, (awaits_late one_more l _ _ raised, tt))))))
 
 pub mark-requires : goal.mark-requires
 mark-requires g c =

@@ -1,0 +1,76 @@
+// The ends of the operations that are not placed, with the soonest of them at hand.
+ghost use Rattle.std.specs.Prelude.{◌≡◌, ℕ, ◌+◌, ◌*◌, ◌<◌, ◌≤◌, length, slice_index, slice_set};
+ghost use Rattle.docket.specs.Kept.{entry_of, end_at, Lesser};
+
+use crate::entry::Entry;
+
+// A tree of instants. At 1,024 and an operation's number stands its end, or the last instant of all where it is awaited
+// no longer; at each lower place from 1 on, the lesser of the two that stand at twice the place and after it.
+// Kept (rule of the project): an array, which is memory of a fixed size.
+#[derive(Drop)]
+pub struct Awaited {
+    least: [u64; 2048],
+    ghost long: { length least ≡ 2048 },
+    ghost lesser: { Lesser least },
+}
+
+// The lesser of the two instants that stand below that place.
+fn lesser_below(least: &[u64; 2048], place: usize) -> u64
+    requires long { length least.now ≡ 2048 }
+    requires within { place < 1024 }
+    ensures left { result ≤ slice_index least.now (2 * place) }
+    ensures right { result ≤ slice_index least.now (2 * place + 1) }
+{
+    least[2 * place].min(least[2 * place + 1])
+}
+
+// Writes the end of the operation, and then the places above it, up to 1.
+fn settle(least: &mut [u64; 2048], number: usize, end: u64)
+    requires long { length least.old ≡ 2048 }
+    requires lesser { Lesser least.old }
+    requires within { number < 1024 }
+    ensures long { length least.new ≡ 2048 }
+    ensures lesser { Lesser least.new }
+    ensures ends { (x : ℕ) → end_at least.new x ≡ end_at (slice_set least.old (1024 + number) end) x }
+{
+    let mut place = 1024 + number;
+    least[place] = end;
+    // Kept (no plainer): it goes by halves, as no range does; successors and take_while say it in more.
+    while place > 1 {
+        place /= 2;
+        least[place] = lesser_below(least, place);
+    }
+}
+
+impl Awaited {
+    // The ends of the operations of the table.
+    pub(crate) fn of(table: &[Entry]) -> Awaited
+        requires { length table.now ≤ 1024 }
+        ensures { (x : ℕ) → x < length table.now → end_at result.least x ≡ (entry_of table.now x).paired.end }
+    {
+        let mut least = [u64::MAX; 2048];
+        for (number, entry) in table.iter().enumerate() {
+            least[1024 + number] = entry.paired.end;
+        }
+        for place in (1..1024).rev() {
+            least[place] = lesser_below(&least, place);
+        }
+        Awaited { least }
+    }
+
+    // Writes the end of the operation of that number.
+    pub(crate) fn set(&mut self, number: u16, end: u64)
+        requires { number < 1024 }
+        ensures own { end_at self.new.least number ≡ end }
+        ensures others { (x : ℕ) → (x ≡ number → ⊥) → end_at self.new.least x ≡ end_at self.old.least x }
+    {
+        settle(&mut self.least, number as usize, end);
+    }
+
+    // The soonest end.
+    pub(crate) fn soonest(&self) -> u64
+        ensures { (x : ℕ) → x < 1024 → result ≤ end_at self.now.least x }
+    {
+        self.least[1]
+    }
+}
