@@ -1,0 +1,2 @@
+pub mod Hashings
+pub mod Lasts

@@ -1,3 +1,4 @@
 pub mod Behind
 pub mod Hashes
 pub mod Words
+pub mod Cases

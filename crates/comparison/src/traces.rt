@@ -1,5 +1,12 @@
 // Cases of traces: examined, read twice, and written.
-ghost use Rattle.std.specs.Prelude.{◌≡◌};
+ghost use Rattle.std.specs.Prelude.{◌≡◌, IfOk, MatchResult, string_bytes};
+ghost use Rattle.sheet.specs.Sheets.{entered, room, SameLoan};
+ghost use Rattle.trace.specs.Answers.{answered, held, shown};
+ghost use Rattle.trace.specs.Reading.{reading};
+ghost use Rattle.report.specs.declared.report.ReportFault.TheVariants.{NoMemory};
+ghost use Rattle.report.specs.Reports.{report_on};
+ghost use Rattle.comparison.specs.Hashes.{hash_of};
+ghost use Rattle.comparison.specs.Cases.{last_line, words_of_text, words_of_said, words_of_written, bytes_of_records, words_of_reading};
 
 use crate::hash::{OF_NOTHING, hash_on};
 use crate::numbers::cut;
@@ -12,26 +19,54 @@ use refusal::Refusal;
 use report::report::{ReportFault, report_trace};
 use sheet::sheet::Sheet;
 use std::alloc::{AllocError, Global};
-use trace::fault::WriteFault;
-use trace::read::read;
+use trace::fault::{ReadFault, WriteFault};
+use trace::read::{Accepted, read};
 use trace::write::write;
 
+// The last line of a text, without its line feed.
+fn last_line(text: &str) -> &str
+    ensures { result.now ≡ last_line text.now }
+{
+    text.lines().last().unwrap_or("")
+}
+
 // The answer to a case of a trace: how long what is printed of it is, its hash and its last line.
-pub(crate) fn trace_answer(heap: Global, body: &[u8]) -> Result<String, ReportFault> {
+pub(crate) fn trace_answer(heap: Global, body: &[u8]) -> Result<String, ReportFault>
+    ensures { MatchResult result (λ s. string_bytes s ≡ words_of_text (report_on body.now).text) (λ e. e ≡ NoMemory) }
+{
     let report = report_trace(heap, body)?;
     let text = report.text.as_str();
     let length = text.len();
     let hash = hash_on(OF_NOTHING, text.as_bytes());
-    let last = text.lines().last().unwrap_or("");
+    let last = last_line(text);
     Ok(format!(in heap; "trace {length} {hash} {last}")?)
 }
 
 // The hash of the records of the operations on a sheet.
-fn sheet_hash<I: Item>(sheet: &Sheet<I>) -> u64 {
+fn sheet_hash<I: Item>(sheet: &Sheet<I>) -> u64
+    ensures { result ≡ hash_of (bytes_of_records I.Item (entered sheet.now)) }
+{
     sheet
         .all()
         .iter()
         .fold(OF_NOTHING, |hash, op| hash_on(hash, &encode(op)))
+}
+
+// What reading a trace is answered.
+fn said_words(heap: Global, answer: Result<Accepted, ReadFault>) -> Result<String, AllocError>
+    ensures { IfOk result (λ s. string_bytes s ≡ words_of_said (shown answer.entry)) }
+{
+    match answer {
+        Ok(accepted) => {
+            let kind = u8::from(accepted.kind);
+            let k = accepted.k;
+            format!(in heap; "accepted kind {kind} k {k}")
+        }
+        Err(fault) => {
+            let refusal = Refusal::from(fault);
+            format!(in heap; "{refusal}")
+        }
+    }
 }
 
 // What reading a trace onto the sheet is answered, and what is then on the sheet.
@@ -39,18 +74,12 @@ fn reading_words<I: Item>(
     heap: Global,
     bytes: &[u8],
     sheet: &mut Sheet<I>,
-) -> Result<String, AllocError> {
-    let answer = match read(bytes, sheet) {
-        Ok(accepted) => {
-            let kind = u8::from(accepted.kind);
-            let k = accepted.k;
-            format!(in heap; "accepted kind {kind} k {k}")?
-        }
-        Err(fault) => {
-            let refusal = Refusal::from(fault);
-            format!(in heap; "{refusal}")?
-        }
-    };
+) -> Result<String, AllocError>
+    ensures words { IfOk result (λ s. string_bytes s ≡ words_of_reading I.Item (answered (reading I.Item (room sheet.old) bytes.now)) (held (entered sheet.old) (reading I.Item (room sheet.old) bytes.now))) }
+    ensures entered { entered sheet.new ≡ held (entered sheet.old) (reading I.Item (room sheet.old) bytes.now) }
+    ensures loan { SameLoan sheet.old sheet.new }
+{
+    let answer = said_words(heap, read(bytes, sheet))?;
     let count = sheet.count();
     let hash = sheet_hash(sheet);
     format!(in heap; "{answer} entered {count} {hash}")
@@ -91,7 +120,9 @@ fn written_words(
     heap: Global,
     answer: Result<(), WriteFault>,
     hash: u64,
-) -> Result<String, AllocError> {
+) -> Result<String, AllocError>
+    ensures { IfOk result (λ s. string_bytes s ≡ words_of_written answer hash) }
+{
     match answer {
         Ok(_) => format!(in heap; "write done {hash}"),
         Err(fault) => {
