@@ -5,7 +5,7 @@ ghost use Rattle.docket.specs.Slots.{reply_of};
 ghost use Rattle.comparison.specs.Behind.{IsShorterBehind};
 ghost use Rattle.comparison.specs.Hashes.{hash_of, bytes_of_shorts, bytes_of_buffers};
 ghost use Rattle.docket.specs.Lent.{owned};
-ghost use Rattle.comparison.specs.Cases.{words_of_answer};
+ghost use Rattle.comparison.specs.Words.{words_of_answer};
 
 use crate::hash::{OF_NOTHING, hash_on, hash_short, hash_shorts};
 use crate::numbers::{cut, next_number};
