@@ -1,0 +1,4 @@
+pub mod Hashings
+pub mod Lasts
+pub mod Parts
+pub mod Fronts

@@ -1,3 +1,5 @@
 pub mod Behind
 pub mod Hashes
 pub mod Words
+pub mod Calls
+pub mod Cases

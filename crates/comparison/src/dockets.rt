@@ -1,9 +1,13 @@
 // Cases of calls on a docket.
-ghost use Rattle.std.specs.Prelude.{length};
+ghost use Rattle.std.specs.Prelude.{◌≡◌, length, IfOk, string_bytes};
 ghost use Rattle.std.specs.Iterator.{at_most};
+ghost use Rattle.docket.specs.Slots.{reply_of};
 ghost use Rattle.comparison.specs.Behind.{IsShorterBehind};
+ghost use Rattle.comparison.specs.Hashes.{hash_of, bytes_of_shorts, bytes_of_buffers};
+ghost use Rattle.docket.specs.Lent.{owned};
+ghost use Rattle.comparison.specs.Words.{words_of_answer};
 
-use crate::hash::{OF_NOTHING, hash_on, hash_short};
+use crate::hash::{OF_NOTHING, hash_on, hash_short, hash_shorts};
 use crate::numbers::{cut, next_number};
 use crate::traces::on_sheet;
 use crate::words::{certify_words, number_words, run_words};
@@ -97,8 +101,22 @@ impl<'a> Iterator for Slots<'a> {
     }
 }
 
+// The hash of three buffers, one after another.
+fn buffers_hash(buffers: &OwnBuffers) -> u64
+    ensures { result ≡ hash_of (bytes_of_buffers (owned buffers.now)) }
+{
+    let hash = hash_shorts(OF_NOTHING, &buffers.ranks);
+    let hash = buffers
+        .instants
+        .iter()
+        .fold(hash, |hash, n| hash_on(hash, &n.to_be_bytes()));
+    hash_shorts(hash, &buffers.latenesses)
+}
+
 // What a slot was answered.
-fn slot_words(heap: Global, slot: &Slot) -> Result<String, AllocError> {
+fn slot_words(heap: Global, slot: &Slot) -> Result<String, AllocError>
+    ensures { IfOk result (λ s. string_bytes s ≡ words_of_answer (reply_of slot.now)) }
+{
     match slot {
         Slot::Place {
             operation: _,
@@ -110,26 +128,14 @@ fn slot_words(heap: Global, slot: &Slot) -> Result<String, AllocError> {
             stopped,
         } => run_words(heap, *new, *stopped),
         Slot::Lift { answer } => number_words(heap, "lifted", *answer),
-        Slot::Certify {
-            buffers: OwnBuffers {
-                ranks,
-                instants,
-                latenesses,
-            },
-            answer,
-        } => {
-            let hash = ranks.iter().copied().fold(OF_NOTHING, hash_short);
-            let hash = instants
-                .iter()
-                .fold(hash, |hash, n| hash_on(hash, &n.to_be_bytes()));
-            let hash = latenesses.iter().copied().fold(hash, hash_short);
-            certify_words(heap, *answer, hash)
-        }
+        Slot::Certify { buffers, answer } => certify_words(heap, *answer, buffers_hash(buffers)),
     }
 }
 
 // The hash of the codes that a holder holds, in the order in which it would give them.
-fn held_hash<H: Holder>(holder: &H) -> u64 {
+fn held_hash<H: Holder>(holder: &H) -> u64
+    ensures { result ≡ hash_of (bytes_of_shorts (H.giving holder.now)) }
+{
     (0..holder.count())
         .filter_map(|place| holder.at(place).ok())
         .fold(OF_NOTHING, hash_short)

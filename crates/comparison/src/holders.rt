@@ -1,7 +1,13 @@
 // Cases of calls on a holder.
-ghost use Rattle.std.specs.Prelude.{length};
-ghost use Rattle.std.specs.Iterator.{at_most};
+ghost use Rattle.std.specs.Prelude.{◌≡◌, [], ◌++◌, codes, IfOk, string_bytes};
+ghost use Rattle.std.specs.Iterator.{YieldsFirst, item_count};
+ghost use Rattle.std.specs.Option.{option_map};
+ghost use Rattle.frame.specs.Kinds.{kind_number};
+ghost use Rattle.holder.specs.Meanings.{meaning};
+ghost use Rattle.examination.specs.Kinds.{seat_of};
 ghost use Rattle.comparison.specs.Behind.{IsShorterBehind};
+ghost use Rattle.comparison.specs.Calls.{front_holder_call, holder_calls};
+ghost use Rattle.comparison.specs.Cases.{words_of_calls, holder_case};
 
 use crate::numbers::next_number;
 use crate::words::holder_words;
@@ -16,7 +22,8 @@ use turns::calls::{HolderCall, answer_to};
 
 // The call at the front of the bytes, and the bytes behind it; none where no whole call stands there.
 fn next_call(bytes: &[u8]) -> Option<(HolderCall, &[u8])>
-    ensures { IsShorterBehind bytes.now result }
+    ensures call { option_map (λ p. (p.0, p.1.now)) result ≡ front_holder_call bytes.now }
+    ensures shorter { IsShorterBehind bytes.now result }
 {
     let (letter, behind) = bytes.split_first()?;
     match letter {
@@ -50,7 +57,9 @@ struct Calls<'a>(&'a [u8]);
 impl<'a> Iterator for Calls<'a> {
     type Item = HolderCall;
 
-    ghost remaining = { λ calls. at_most (length calls.0.now) };
+    ghost next_gives = { YieldsFirst (λ calls. holder_calls calls.0.now) };
+
+    ghost remaining = { item_count (λ calls. holder_calls calls.0.now) };
 
     fn next(&mut self) -> Option<HolderCall> {
         let (call, behind) = next_call(self.0)?;
@@ -60,7 +69,9 @@ impl<'a> Iterator for Calls<'a> {
 }
 
 // The answers of a holder to the calls that the bytes say, each behind a space.
-fn answers_of<H: Holder>(heap: Global, holder: &mut H, calls: &[u8]) -> Result<String, AllocError> {
+fn answers_of<H: Holder>(heap: Global, holder: &mut H, calls: &[u8]) -> Result<String, AllocError>
+    ensures { IfOk result (λ s. string_bytes s ≡ codes "holder" ++ words_of_calls H.seat (meaning (H.giving holder.old) (H.adds holder.old)) (holder_calls calls.now)) }
+{
     let mut text = String::from_str(heap, "holder")?;
     for call in Calls(calls) {
         let words = holder_words(heap, answer_to(holder, call))?;
@@ -69,16 +80,24 @@ fn answers_of<H: Holder>(heap: Global, holder: &mut H, calls: &[u8]) -> Result<S
     Ok(text)
 }
 
+// The same for a new holder of a kind.
+fn answers_by_kind(heap: Global, kind: Kind, calls: &[u8]) -> Result<String, AllocError>
+    ensures { IfOk result (λ s. string_bytes s ≡ codes "holder" ++ words_of_calls (seat_of (kind_number kind)) (meaning [] 0) (holder_calls calls.now)) }
+{
+    // Kept (no plainer): the kind is known at run time only, and a match is what picks a holder's type then.
+    match kind {
+        Kind::Queue => answers_of(heap, &mut Queue::new(), calls),
+        Kind::Stack => answers_of(heap, &mut Stack::new(), calls),
+        Kind::CountingQueue => answers_of(heap, &mut CountingQueue::new(), calls),
+    }
+}
+
 // The answer to a case of calls on a holder, or none where it is no such case.
-pub(crate) fn holder_answer(heap: Global, body: &[u8]) -> Result<Option<String>, AllocError> {
+pub(crate) fn holder_answer(heap: Global, body: &[u8]) -> Result<Option<String>, AllocError>
+    ensures { IfOk result (λ s. option_map string_bytes s ≡ holder_case body.now) }
+{
     let Some((kind, calls)) = body.split_first() else {
         return Ok(None);
     };
-    // Kept (no plainer): the kind is known at run time only, and a match is what picks a holder's type then.
-    let text = match any_kind(*kind) {
-        Kind::Queue => answers_of(heap, &mut Queue::new(), calls)?,
-        Kind::Stack => answers_of(heap, &mut Stack::new(), calls)?,
-        Kind::CountingQueue => answers_of(heap, &mut CountingQueue::new(), calls)?,
-    };
-    Ok(Some(text))
+    Ok(Some(answers_by_kind(heap, any_kind(*kind), calls)?))
 }

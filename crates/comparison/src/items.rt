@@ -1,5 +1,8 @@
 // Cases of items: a number unpacked and packed again.
-ghost use Rattle.std.specs.Prelude.{◌≡◌, Err, MatchResult};
+ghost use Rattle.std.specs.Prelude.{◌≡◌, Err, IfOk, MatchResult, string_bytes};
+ghost use Rattle.std.specs.Option.{option_map};
+ghost use Rattle.item.specs.Lanes.{lane_number, lane_named};
+ghost use Rattle.comparison.specs.Cases.{number_again, item_case};
 
 use crate::words::item_words;
 use item::fault::ItemFault;
@@ -10,18 +13,23 @@ use std::alloc::{AllocError, Global};
 
 // The number of the item that the number names.
 fn packed_again<I: Item>(number: u64) -> Result<u64, ItemFault>
-    ensures { MatchResult result (λ n. n ≡ number) (λ e. I.Item.named number ≡ Err e) }
+    ensures answer { result ≡ number_again I.Item.number (I.Item.named number) }
+    ensures same { MatchResult result (λ n. n ≡ number) (λ e. I.Item.named number ≡ Err e) }
 {
     Ok(I::unpack(number)?.pack())
 }
 
 // The number of the lane of a number.
-fn lane_again(number: u8) -> Result<u64, ItemFault> {
+fn lane_again(number: u8) -> Result<u64, ItemFault>
+    ensures { result ≡ number_again lane_number (lane_named number) }
+{
     Ok(u64::from(u8::from(Lane::try_from(number)?)))
 }
 
 // The answer to a case of an item, or none where it is no such case.
-pub(crate) fn item_answer(heap: Global, body: &[u8]) -> Result<Option<String>, AllocError> {
+pub(crate) fn item_answer(heap: Global, body: &[u8]) -> Result<Option<String>, AllocError>
+    ensures { IfOk result (λ s. option_map string_bytes s ≡ item_case body.now) }
+{
     if body.len() < 9 {
         return Ok(None);
     }

@@ -1,5 +1,5 @@
 -- What callers in other languages get: plain numbers, and text over the front of their memory.
-use Rattle.std.specs.Prelude.{ℕ, cond, List, ◌++◌, length, drop, Ok, Err, Result, nat_le}
+use Rattle.std.specs.Prelude.{◌≡◌, ℕ, ◌⊎◌, cond, List, ◌++◌, length, drop, Ok, Err, Result, nat_le}
 use Rattle.refusal.specs.declared.Layer.{Layer}
 use Rattle.refusal.specs.declared.Layer.TheVariants.{Frame, Record, Item, Sheet, Docket, Holder}
 use Rattle.calls.specs.declared.certificate.Certificate.{Certificate}
@@ -34,3 +34,8 @@ plain (Err NoMemory) = record { status = 2; layer = 0; number = 0; place = 0; de
 -- memory with a text over its front, or as it was where the text does not fit
 abbrev pub laid : List ℕ → List ℕ → List ℕ
 laid text memory = cond (nat_le (length text) (length memory)) (text ++ drop (length text) memory) memory
+
+-- the text is over the front of the memory that was given and its length is answered, or there was not enough memory to make it: then 0 is
+-- answered, and the memory is as it was given
+abbrev pub LaidOrNone : List ℕ → List ℕ → ℕ → List ℕ → Type 0
+LaidOrNone text before n after = ((n ≡ length text) × (after ≡ laid text before)) ⊎ ((n ≡ 0) × (after ≡ before))

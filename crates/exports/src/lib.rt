@@ -1,12 +1,13 @@
 // What callers in Rust and C can link: bytes in memory, examined.
 #![tactic(auto)]
 
-ghost use Rattle.std.specs.Prelude.{◌≡◌, length, Result};
+ghost use Rattle.std.specs.Prelude.{◌≡◌, ℕ, List, length, Result};
 ghost use Rattle.calls.specs.declared.certificate.Certificate.{Certificate};
 ghost use Rattle.docket.specs.InStep.{three};
 ghost use Rattle.examination.specs.declared.examining.ExamineFault.{ExamineFault};
 ghost use Rattle.examination.specs.Traces.{examination_of, Comes};
-ghost use Rattle.exports.specs.Plain.{number_of_layer, plain, laid};
+ghost use Rattle.report.specs.Reports.{report_on};
+ghost use Rattle.exports.specs.Plain.{number_of_layer, plain, laid, LaidOrNone};
 
 use calls::certificate::Certificate;
 use comparison::case::answer_case;
@@ -113,14 +114,24 @@ pub extern "C" fn examiner_certify(
 // there was not enough memory to make it.
 // Kept (C interface): a caller in C reads one number, so an Option is 0 here, which no text has as its length.
 #[unsafe(no_mangle)]
-pub extern "C" fn examiner_report(heap: Global, bytes: &[u8], text: &mut [u8]) -> usize {
-    report_trace(heap, bytes).map_or(0, |report| lay(report.text.as_bytes(), text))
+pub extern "C" fn examiner_report(heap: Global, bytes: &[u8], text: &mut [u8]) -> usize
+    ensures { LaidOrNone (report_on bytes.now).text text.old result text.new }
+{
+    match report_trace(heap, bytes) {
+        Ok(report) => lay(report.text.as_bytes(), text),
+        Err(_) => 0,
+    }
 }
 
 // Lays the answer to a case over the front of the memory, where it fits, and answers how long it is; 0 where there was not
 // enough memory to make it.
 // Kept (C interface): a caller in C reads one number, so an Option is 0 here, which no answer has as its length.
 #[unsafe(no_mangle)]
-pub extern "C" fn examiner_answer(heap: Global, letter: u8, body: &[u8], text: &mut [u8]) -> usize {
-    answer_case(heap, letter, body).map_or(0, |answer| lay(answer.as_bytes(), text))
+pub extern "C" fn examiner_answer(heap: Global, letter: u8, body: &[u8], text: &mut [u8]) -> usize
+    ensures { (answer : List ℕ) × LaidOrNone answer text.old result text.new }
+{
+    match answer_case(heap, letter, body) {
+        Ok(answer) => lay(answer.as_bytes(), text),
+        Err(_) => 0,
+    }
 }

@@ -1,0 +1,74 @@
+-- The calls that bytes say, one after another.
+use Rattle.std.specs.Prelude.{ℕ, zero, suc, ◌*◌, cond, List, [], ◌∷◌, length, take, drop, replicate, Some, None, Option, ◌==◌, nat_lt}
+use Rattle.std.specs.Int.{from_be_bytes, w16}
+use Rattle.std.specs.Option.{option_map}
+use Rattle.frame.specs.Orders.{numbers_of}
+use Rattle.turns.specs.declared.calls.HolderCall.{HolderCall}
+use Rattle.turns.specs.declared.calls.HolderCall.TheVariants.{Clear, Count, Rank, At, Add, Take}
+use Rattle.calls.specs.Rules.{Buffers}
+use Rattle.calls.specs.Calls.{Call, place, run, lift, certify}
+
+module _ {C : Type 0} where
+  -- a call and the calls behind it
+  abbrev pub and_behind : (List ℕ → List C) → Option (C × List ℕ) → List C
+  and_behind rest None = []
+  and_behind rest (Some p) = p.0 ∷ rest p.1
+
+  -- at most n calls, where front gives the call at the front of bytes and the bytes behind it
+  abbrev pub first_calls : (List ℕ → Option (C × List ℕ)) → ℕ → List ℕ → List C
+  first_calls front zero bytes = []
+  first_calls front (suc n) bytes = and_behind (first_calls front n) (front bytes)
+
+  -- all the calls up to bytes at whose front no whole call stands: each has a byte at least
+  unfoldable pub all_calls : (List ℕ → Option (C × List ℕ)) → List ℕ → List C
+  all_calls front bytes = first_calls front (length bytes) bytes
+
+  -- what is said of the number of 2 bytes at the front and the bytes behind it; none where there are fewer
+  abbrev pub with_number : List ℕ → (ℕ → List ℕ → Option (C × List ℕ)) → Option (C × List ℕ)
+  with_number bytes say = cond (nat_lt (length bytes) 2) None (say (from_be_bytes w16 (take 2 bytes)) (drop 2 bytes))
+
+-- ---- on a holder
+
+-- the call of a letter with a number
+abbrev pub numbered_call : ℕ → ℕ → Option HolderCall
+numbered_call letter n = cond (letter == 2) (Some (Rank n)) (cond (letter == 3) (Some (At n)) (cond (letter == 4) (Some (Add n)) (cond (letter == 5) (Some (Take n)) None)))
+
+-- the call of a letter, and what is behind it
+abbrev pub call_of_letter : ℕ → List ℕ → Option (HolderCall × List ℕ)
+call_of_letter letter bytes =
+    cond (letter == 0) (Some (Clear, bytes))
+    (cond (letter == 1) (Some (Count, bytes)) (with_number bytes (λ n rest. option_map (λ call. (call, rest)) (numbered_call letter n))))
+
+abbrev pub front_holder_call : List ℕ → Option (HolderCall × List ℕ)
+front_holder_call [] = None
+front_holder_call (letter ∷ bytes) = call_of_letter letter bytes
+
+abbrev pub holder_calls : List ℕ → List HolderCall
+holder_calls bytes = all_calls front_holder_call bytes
+
+-- ---- on a docket
+
+-- new buffers with so many entries, all bits set in each
+abbrev pub blank_buffers : ℕ → ℕ → ℕ → Buffers
+blank_buffers ranks instants latenesses =
+    record { ranks = replicate ranks 65535; instants = replicate instants 18446744073709551615; latenesses = replicate latenesses 65535 }
+
+-- a run along so many numbers at the front of bytes, and what is behind it
+abbrev pub run_of_numbers : ℕ → List ℕ → Option (Call × List ℕ)
+run_of_numbers count bytes = cond (nat_lt (length bytes) (2 * count)) None (Some (run (numbers_of count (take (2 * count) bytes)), drop (2 * count) bytes))
+
+-- the call of a letter, and what is behind it
+abbrev pub docket_call_of_letter : ℕ → List ℕ → Option (Call × List ℕ)
+docket_call_of_letter letter bytes =
+    cond (letter == 0) (with_number bytes (λ operation rest. Some (place operation, rest)))
+    (cond (letter == 1) (with_number bytes run_of_numbers)
+    (cond (letter == 2) (Some (lift, bytes))
+    (cond (letter == 3)
+    (with_number bytes (λ ranks rest. with_number rest (λ instants rest2. with_number rest2 (λ latenesses rest3. Some (certify (blank_buffers ranks instants latenesses), rest3))))) None)))
+
+abbrev pub front_docket_call : List ℕ → Option (Call × List ℕ)
+front_docket_call [] = None
+front_docket_call (letter ∷ bytes) = docket_call_of_letter letter bytes
+
+abbrev pub docket_calls : List ℕ → List Call
+docket_calls bytes = all_calls front_docket_call bytes

@@ -1,0 +1,112 @@
+-- What a case is answered, by its letter and its body: none where it is no such case.
+use Rattle.std.specs.Prelude.{ℕ, ◌+◌, ◌*◌, min, cond, List, [], ◌∷◌, ◌++◌, length, take, drop, replicate, slice_index, is_ok, Some, None, Ok, Err, codes, Option, Result, ◌==◌, nat_lt}
+use Rattle.std.specs.Int.Digits.{number_from_digits}
+use Rattle.std.specs.Option.{option_map}
+use Rattle.refusal.specs.Wording.{refusal_line}
+use Rattle.item.specs.declared.fault.ItemFault.{ItemFault}
+use Rattle.item.specs.declared.item.Item.{Ghosts}
+use Rattle.item.specs.Tickets.{ticket_items}
+use Rattle.item.specs.Stamps.{stamp_items}
+use Rattle.item.specs.Lanes.{lane_number, lane_named}
+use Rattle.sheet.specs.declared.operation.Operation.{Operation}
+use Rattle.frame.specs.Orders.{numbers_of}
+use Rattle.trace.specs.declared.fault.ReadFault.{ReadFault}
+use Rattle.trace.specs.Contents.{contents, encode}
+use Rattle.trace.specs.Reading.{reading}
+use Rattle.trace.specs.Answers.{Said, answered, held}
+use Rattle.trace.specs.Faults.{read_refusal}
+use Rattle.trace.specs.Writing.{writing}
+use Rattle.holder.specs.Meanings.{Meaning, meaning}
+use Rattle.turns.specs.declared.calls.HolderCall.{HolderCall}
+use Rattle.turns.specs.Calls.{answer_for, after}
+use Rattle.order.specs.Steps.{SeatRule}
+use Rattle.examination.specs.Kinds.{seat_of}
+use Rattle.examination.specs.Traces.{type_of}
+use Rattle.comparison.specs.Calls.{holder_calls}
+use Rattle.comparison.specs.Hashes.{hash_of}
+use Rattle.comparison.specs.Words.{words_of_holder, words_of_item, words_of_reading, words_of_written}
+
+-- the number that so many bytes of a body say from a place on
+abbrev pub number_in : ℕ → ℕ → List ℕ → ℕ
+number_in at width body = number_from_digits 256 (take width (drop at body))
+
+-- what is said of the two parts behind a head, of which the first has so many bytes; none where there are fewer
+abbrev pub of_parts : ℕ → ℕ → List ℕ → (List ℕ → List ℕ → List ℕ) → Option (List ℕ)
+of_parts head count body say = cond (nat_lt (length body) (head + count)) None (Some (say (take count (drop head body)) (drop count (drop head body))))
+
+-- what is said of a trace whose item type is 1, for stamps, or any other, for tickets
+abbrev pub by_type : List ℕ → List ℕ → List ℕ → List ℕ
+by_type trace stamps tickets = cond (type_of trace == 1) stamps tickets
+
+-- what is said where a trace is accepted, or its refusal behind the word of the case
+abbrev pub unless_unread : List ℕ → List ℕ → Result Said ReadFault → List ℕ
+unless_unread word said (Ok a) = said
+unless_unread word said (Err e) = word ++ (codes " unread " ++ refusal_line (read_refusal e))
+
+module _ {I : Type 0} (t : Ghosts I) where
+  -- what is said of a trace that is read with room for 1,024 operations, by its operations
+  abbrev pub on_trace : List ℕ → (List (Operation I) → List ℕ) → List ℕ → List ℕ
+  on_trace word say trace = unless_unread word (say (held [] (reading t 1024 trace))) (answered (reading t 1024 trace))
+
+  -- two traces, read one after another onto one sheet with so much room
+  abbrev pub words_of_readings : ℕ → List ℕ → List ℕ → List ℕ
+  words_of_readings room one other =
+      let first = reading t room one in
+      let second = reading t room other in
+      codes "read " ++ (words_of_reading t (answered first) (held [] first) ++ (codes "; " ++ words_of_reading t (answered second) (held (held [] first) second)))
+
+  -- memory, first all a5, after operations are written into it with a kind, a k and an order
+  abbrev pub memory_after : ℕ → ℕ → List ℕ → ℕ → List (Operation I) → List ℕ
+  memory_after kind k order size os =
+      let before : List ℕ = replicate size 165 in
+      cond (is_ok (writing kind (length os) (length order) size)) (encode t (contents kind k os order) ++ drop (8 + 26 * length os) before) before
+
+  -- operations that are written so
+  abbrev pub words_of_writing : ℕ → ℕ → List ℕ → ℕ → List (Operation I) → List ℕ
+  words_of_writing kind k order size os = words_of_written (writing kind (length os) (length order) size) (hash_of (memory_after kind k order size os))
+
+-- the same, by the item type of the first trace
+abbrev pub words_of_two : ℕ → List ℕ → List ℕ → List ℕ
+words_of_two room one other = by_type one (words_of_readings stamp_items room one other) (words_of_readings ticket_items room one other)
+
+-- a case of reading twice
+abbrev pub reading_case : List ℕ → Option (List ℕ)
+reading_case body = of_parts 6 (number_in 2 4 body) body (words_of_two (min (number_in 0 2 body) 1024))
+
+-- the operations of a trace, written with a kind, a k and an order, by its item type
+abbrev pub words_of_written_trace : ℕ → ℕ → List ℕ → ℕ → List ℕ → List ℕ
+words_of_written_trace kind k order size trace =
+    by_type trace (on_trace stamp_items (codes "write") (words_of_writing stamp_items kind k order size) trace)
+    (on_trace ticket_items (codes "write") (words_of_writing ticket_items kind k order size) trace)
+
+-- a case of writing
+abbrev pub writing_case : List ℕ → Option (List ℕ)
+writing_case body =
+    of_parts 7 (2 * number_in 5 2 body) body (λ order trace.
+    words_of_written_trace (slice_index body 0) (number_in 1 2 body) (numbers_of (number_in 5 2 body) order) (number_in 3 2 body) trace)
+
+-- the number of what a number names
+abbrev pub number_again : {A : Type 0} → (A → ℕ) → Result A ItemFault → Result ℕ ItemFault
+number_again number (Ok x) = Ok (number x)
+number_again number (Err e) = Err e
+
+-- the number that a case of an item tells, by its kind and the 9 bytes of its body
+abbrev pub item_told : ℕ → List ℕ → Option (Result ℕ ItemFault)
+item_told kind body =
+    let number = number_in 1 8 body in
+    cond (kind == 0) (Some (number_again ticket_items.number (ticket_items.named number)))
+    (cond (kind == 1) (Some (number_again stamp_items.number (stamp_items.named number))) (cond (kind == 2) (Some (number_again lane_number (lane_named (slice_index body 8)))) None))
+
+-- a case of an item
+abbrev pub item_case : List ℕ → Option (List ℕ)
+item_case body = cond (nat_lt (length body) 9) None (option_map words_of_item (item_told (slice_index body 0) body))
+
+-- what a holder that stands for a meaning answers to calls, each answer behind a space
+abbrev pub words_of_calls : SeatRule → Meaning → List HolderCall → List ℕ
+words_of_calls seat m [] = []
+words_of_calls seat m (call ∷ calls) = codes " " ++ (words_of_holder (answer_for m call) ++ words_of_calls seat (after seat m call) calls)
+
+-- a case of calls on a new holder of a kind
+abbrev pub holder_case : List ℕ → Option (List ℕ)
+holder_case [] = None
+holder_case (kind ∷ calls) = Some (codes "holder" ++ words_of_calls (seat_of kind) (meaning [] 0) (holder_calls calls))
