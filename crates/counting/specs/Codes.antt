@@ -17,15 +17,15 @@ use Rattle.counting.specs.Blocks.{used, worth, upto}
 use Rattle.counting.specs.Slots.{codes, slot_of, FreeFrom, Placed}
 use Rattle.counting.specs.Sums.{upto_le}
 
-codes_append : (xs ys : List (Option ℕ)) → codes (xs ++ ys) ≡ codes xs ++ codes ys
+pub codes_append : (xs ys : List (Option ℕ)) → codes (xs ++ ys) ≡ codes xs ++ codes ys
 unfolding codes
 codes_append xs ys = filter_map-append (λ slot. slot) xs ys
 
-codes_used : (c : ℕ) (xs : List (Option ℕ)) → codes (Some c ∷ xs) ≡ c ∷ codes xs
+pub codes_used : (c : ℕ) (xs : List (Option ℕ)) → codes (Some c ∷ xs) ≡ c ∷ codes xs
 unfolding codes
 codes_used c xs = refl
 
-codes_free : (xs : List (Option ℕ)) → codes (None ∷ xs) ≡ codes xs
+pub codes_free : (xs : List (Option ℕ)) → codes (None ∷ xs) ≡ codes xs
 unfolding codes
 codes_free xs = refl
 
@@ -40,7 +40,7 @@ length_used [] = refl
 length_used (None ∷ xs) = length_used xs
 length_used (Some c ∷ xs) = ap suc (length_used xs) ∙ sym (sum_by-cons worth (Some c) xs ∙ one-add (count_by used xs))
 
-length_codes : (s : List (Option ℕ)) (n : ℕ) → length (codes (take n s)) ≡ upto s n
+pub length_codes : (s : List (Option ℕ)) (n : ℕ) → length (codes (take n s)) ≡ upto s n
 unfolding upto
 length_codes s n = length_used (take n s)
 

@@ -1,7 +1,9 @@
 // The arrival positions, as slots from 0 on, and the sum of the block that ends at each position. A used slot has a
 // code.
-ghost use Rattle.std.specs.Prelude.{◌≡◌, ◌<◌, ◌≤◌, IsSome, length, replicate, slice_index_or, slice_set};
+ghost use Rattle.std.specs.Prelude.{◌≡◌, ◌<◌, ◌≤◌, min, IsSome, length, replicate, slice_index_or, slice_set};
+ghost use Rattle.holder.specs.Answers.{front_over};
 ghost use Rattle.counting.specs.Blocks.{upto, BlockSums};
+ghost use Rattle.counting.specs.Slots.{codes};
 
 use crate::blocks::{Change, block_len};
 use crate::slot::Slot;
@@ -16,6 +18,25 @@ pub struct Arrivals {
     ghost slotted: { length slots ≡ 1024 },
     ghost summed: { length sums ≡ 1025 },
     ghost right: { BlockSums sums slots },
+}
+
+// Writes the codes of the used slots over the front of the buffer, until it is full, and answers how many.
+fn write_codes(slots: &[Option<u16>], buffer: &mut [u16]) -> usize
+    ensures answer { result ≡ min (length (codes slots.now)) (length buffer.old) }
+    ensures written { buffer.new ≡ front_over (codes slots.now) buffer.old }
+{
+    let mut written = 0;
+    for slot in slots {
+        if written == buffer.len() {
+            break;
+        }
+        if let Some(code) = *slot {
+            // Kept (proof): by index, since of a zip with `iter_mut` no proof knows an element afterwards.
+            buffer[written] = code;
+            written += 1;
+        }
+    }
+    written
 }
 
 impl Arrivals {
@@ -80,5 +101,24 @@ impl Arrivals {
             }
         }
         Slot { number: at }
+    }
+    // The slots from the first used one on.
+    fn from_first(&self) -> &[Option<u16>]
+        ensures { codes result.now ≡ codes self.now.slots }
+    {
+        let first = if self.used_before(ADD_BOUND) > 0 {
+            self.select(0).number
+        } else {
+            ADD_BOUND
+        };
+        &self.slots[first as usize..]
+    }
+
+    // Writes the first codes over the front of the buffer, as many as it has entries for, and answers how many.
+    pub(crate) fn front(&self, buffer: &mut [u16]) -> usize
+        ensures answer { result ≡ min (length (codes self.now.slots)) (length buffer.old) }
+        ensures written { buffer.new ≡ front_over (codes self.now.slots) buffer.old }
+    {
+        write_codes(self.from_first(), buffer)
     }
 }

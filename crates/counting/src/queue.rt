@@ -80,6 +80,10 @@ impl Holder for CountingQueue {
         self.arrivals.get(slot).ok_or(HolderFault::NoSuchPlace)
     }
 
+    fn front(&self, buffer: &mut [u16]) -> usize {
+        self.arrivals.front(buffer)
+    }
+
     fn clear(&mut self) {
         *self = CountingQueue::new();
     }

@@ -1,6 +1,7 @@
 pub mod Entered
 pub mod Books
 pub mod Turns
+pub mod Fronts
 pub mod Pushes
 pub mod Table
 pub mod Holds

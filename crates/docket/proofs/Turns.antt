@@ -1,26 +1,10 @@
 -- One turn of the loops over the codes and the steps, and the answers of the rules. Assumes nothing.
-use Rattle.std.proofs.Common.{◌≡◌, ℕ, ◌+◌, ◌<◌, ◌≤◌, Bool, true, false, cond, ltb, leb, List, [], ◌∷◌, ◌++◌, length, get_or, take, Ok, Err, Option, sym, refl, ap, ◌∙◌, ⊎_elim, arith}
-use Rattle.std.proofs.lemmas.List.{take_more, take_all}
-use Rattle.std.proofs.lemmas.Bool.{cases_Bool, ltb-true, ltb-false, lt-leb, leb-false, cond-false}
+use Rattle.std.proofs.Common.{◌≡◌, ℕ, ◌+◌, ◌<◌, Bool, true, false, cond, leb, List, [], ◌∷◌, ◌++◌, length, get_or, take, Ok, Err, Option, sym, refl, ap, ◌∙◌, ⊎_elim, arith}
+use Rattle.std.proofs.lemmas.List.{take_more}
+use Rattle.std.proofs.lemmas.Bool.{cases_Bool, lt-leb, leb-false, cond-false}
 use Rattle.calls.specs.declared.fault.DocketFault.TheVariants.{PlacedAlready}
-use Rattle.holder.specs.Answers.{at_answer}
-use Rattle.holder.specs.declared.fault.HolderFault.{HolderFault}
 use Rattle.docket.specs.declared.entry.Entry.{Entry}
 use Rattle.docket.specs.Moves.{judged, judged_rank, judged_wait, changed_at, changed_all}
-
-pub at_ok : (L : List ℕ) (p x : ℕ) → Ok x ≡ at_answer L p → (p < length L) × (x ≡ get_or L p 0)
-at_ok L p x e =
-    ⊎_elim
-    (λ (t : ltb p (length L) ≡ true). let f = rw t at e in (ltb-true p (length L) t, cc))
-    (λ (t : ltb p (length L) ≡ false). let f = rw t at e in let z : ◌≡◌ {A = ℕ} 0 1 = cc in absurd (omega arith))
-    (cases_Bool (ltb p (length L)))
-
-pub at_err : (L : List ℕ) (p : ℕ) (y : HolderFault) → Err y ≡ at_answer L p → length L ≤ p
-at_err L p y e =
-    ⊎_elim
-    (λ (t : ltb p (length L) ≡ true). let f = rw t at e in let z : ◌≡◌ {A = ℕ} 0 1 = cc in absurd (omega arith))
-    (λ (t : ltb p (length L) ≡ false). ltb-false p (length L) t)
-    (cases_Bool (ltb p (length L)))
 
 -- ---- the rules
 module _ (m n x k : ℕ) (b : Bool) (w r : Option ℕ) where
@@ -49,9 +33,6 @@ module _ (f : Entry → Entry) where
 
   pub changed_more : (es : List Entry) (L : List ℕ) (i : ℕ) → i < length L → changed_all f es (take (i + 1) L) ≡ changed_at f (changed_all f es (take i L)) (get_or L i 0)
   changed_more es L i h = ap (changed_all f es) (take_more L i 0 h) ∙ changed_push es (take i L) (get_or L i 0)
-
-  pub changed_past : (es : List Entry) (L : List ℕ) (i : ℕ) → length L ≤ i → changed_all f es (take (i + 1) L) ≡ changed_all f es (take i L)
-  changed_past es L i h = ap (changed_all f es) (take_all (i + 1) L (omega arith) ∙ sym (take_all i L h))
 
   -- a turn
   pub changed_step : (es₀ es es' : List Entry) (L : List ℕ) (i c : ℕ) → i < length L → c ≡ get_or L i 0 → es ≡ changed_all f es₀ (take i L) → es' ≡ changed_at f es c → es' ≡ changed_all f es₀ (take (i + 1) L)

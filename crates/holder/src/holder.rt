@@ -1,8 +1,8 @@
 // The interface of a strict object that holds codes.
-ghost use Rattle.std.specs.Prelude.{◌≡◌, ℕ, ◌+◌, ◌≤◌, List, [], length, is_ok, if◌then◌else◌};
+ghost use Rattle.std.specs.Prelude.{◌≡◌, ℕ, ◌+◌, ◌≤◌, min, List, [], length, is_ok, if◌then◌else◌};
 ghost use Rattle.std.specs.List.{insert};
 ghost use Rattle.giving.specs.Lists.{without};
-ghost use Rattle.holder.specs.Answers.{Sound, add_answer, rank_answer, at_answer, take_answer};
+ghost use Rattle.holder.specs.Answers.{Sound, add_answer, rank_answer, at_answer, take_answer, front_over};
 
 use crate::fault::HolderFault;
 
@@ -35,6 +35,12 @@ pub trait Holder: Sized {
     // The code at a place of the giving list.
     fn at(&self, place: u16) -> Result<u16, HolderFault>
         ensures { result ≡ at_answer (giving self.now) place };
+
+    // Writes the first codes of the giving list over the front of the buffer, as many as there are and it has entries
+    // for, and answers how many.
+    fn front(&self, buffer: &mut [u16]) -> usize
+        ensures answer { result ≡ min (length (giving self.now)) (length buffer.old) }
+        ensures written { buffer.new ≡ front_over (giving self.now) buffer.old };
 
     // ---- writing: a refusal leaves the meaning as it is
 

@@ -73,6 +73,15 @@ impl<E: End> Holder for Line<E> {
         Ok(self.row.get(E::place(n, place)))
     }
 
+    fn front(&self, buffer: &mut [u16]) -> usize {
+        let n = self.row.len();
+        let written = buffer.len().min(n as usize);
+        for (i, code) in buffer[..written].iter_mut().enumerate() {
+            *code = self.row.get(E::place(n, i as u16));
+        }
+        written
+    }
+
     fn clear(&mut self) {
         self.row.clear();
     }

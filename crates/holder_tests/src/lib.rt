@@ -95,8 +95,15 @@ mod plain {
         }
     }
 
-    // 7,500 calls with the answers of the plain list beside them, the 6,001st of them a clear.
-    pub fn turns_of(seat: Seat, rt: HostRuntime) -> Result<Vec<HolderTurn>, Fail> {
+    // Calls with the answers of the plain list beside them, and the codes that it has in the end.
+    #[derive(Drop)]
+    pub struct Played {
+        pub turns: Vec<HolderTurn>,
+        pub list: Vec<u16>,
+    }
+
+    // 7,500 calls on the plain list, the 6,001st of them a clear.
+    pub fn play(seat: Seat, rt: HostRuntime) -> Result<Played, Fail> {
         let mut plain = Plain {
             list: Vec::new(rt.alloc()),
             adds: 0,
@@ -114,13 +121,16 @@ mod plain {
             let answer = plain.answer(call)?;
             turns.push(HolderTurn { call, answer })?;
         }
-        Ok(turns)
+        Ok(Played {
+            turns,
+            list: plain.list,
+        })
     }
 }
 
 #[cfg(test)]
 mod tests {
-    use crate::plain::{Seat, turns_of};
+    use crate::plain::{Seat, play};
     use counting::alike::answers_as_queue;
     use counting::queue::CountingQueue;
     use holder::fault::HolderFault;
@@ -133,8 +143,50 @@ mod tests {
 
     // Whether a holder answers the calls as the plain list of that seat does.
     fn agrees<H: Holder + Drop>(mut holder: H, seat: Seat, rt: HostRuntime) -> Result<bool, Fail> {
-        let turns = turns_of(seat, rt)?;
-        Ok(answers_agree(&mut holder, &turns))
+        let played = play(seat, rt)?;
+        Ok(answers_agree(&mut holder, &played.turns))
+    }
+
+    // What an entry of a buffer has before a call: no code is so large.
+    const BLANK: u16 = 9_999;
+
+    // Whether a holder writes the first codes of the list over the front of a buffer of so many entries, says how many,
+    // and leaves the entries past them.
+    fn writes_front<H: Holder>(
+        holder: &H,
+        list: &[u16],
+        entries: usize,
+        rt: HostRuntime,
+    ) -> Result<bool, Fail> {
+        let mut buffer = vec![in rt.alloc(); BLANK; entries]?;
+        let written = holder.front(&mut buffer);
+        let as_wanted = buffer.iter().enumerate().all(|(i, entry)| *entry
+            == list.get(i).copied().unwrap_or(BLANK));
+        Ok(as_wanted && written == list.len().min(entries))
+    }
+
+    // The same of an empty holder, and after the calls for buffers shorter than the list, as long and longer.
+    fn fronts_agree<H: Holder + Drop>(
+        mut holder: H,
+        seat: Seat,
+        rt: HostRuntime,
+    ) -> Result<bool, Fail> {
+        let empty = writes_front(&holder, &[], 5, rt)?;
+        let played = play(seat, rt)?;
+        answers_agree(&mut holder, &played.turns);
+        let held = played.list.len();
+        let short = writes_front(&holder, &played.list, held / 2, rt)?;
+        let exact = writes_front(&holder, &played.list, held, rt)?;
+        let long = writes_front(&holder, &played.list, 1100, rt)?;
+        Ok(empty && short && exact && long)
+    }
+
+    #[test]
+    fn fronts_are_those_of_the_plain_list(rt: HostRuntime) -> Result<(), Fail> {
+        assert!(rt; fronts_agree(Queue::new(), Seat::End, rt)?);
+        assert!(rt; fronts_agree(Stack::new(), Seat::Front, rt)?);
+        assert!(rt; fronts_agree(CountingQueue::new(), Seat::End, rt)?);
+        Ok(())
     }
 
     #[test]
@@ -157,7 +209,7 @@ mod tests {
 
     #[test]
     fn counting_queue_answers_as_the_queue(rt: HostRuntime) -> Result<(), Fail> {
-        let mut turns = turns_of(Seat::Front, rt)?;
+        let mut turns = play(Seat::Front, rt)?.turns;
         let mut queue = Queue::new();
         let mut counting = CountingQueue::new();
         assert!(rt; answers_as_queue(&mut queue, &mut counting, &mut turns));
@@ -184,7 +236,7 @@ mod tests {
 
     #[test]
     fn every_refusal_is_among_the_answers(rt: HostRuntime) -> Result<(), Fail> {
-        let turns = turns_of(Seat::End, rt)?;
+        let turns = play(Seat::End, rt)?.turns;
         for number in 40..=44 {
             assert!(rt; refused(&turns, number) > 100);
         }

@@ -1,5 +1,6 @@
 // The parts of a call: each works on the holder and the table as they stand.
 ghost use Rattle.std.specs.Prelude.{◌≡◌, ℕ, length, take};
+ghost use Rattle.giving.specs.Lists.{Below};
 ghost use Rattle.docket.specs.Moves.{stepped, rank_found, with_late, changed_all};
 
 use crate::entry::Entry;
@@ -34,6 +35,27 @@ pub(crate) fn step<H: Holder>(holder: &mut H, operation: u16, deed: Deed)
     }
 }
 
+// Changes the lateness of the operation of each code.
+fn change_each<F: Fn(u16) -> u16>(codes: &[u16], entries: &mut [Entry], change: F)
+    requires long { length entries.old ≡ 1024 }
+    requires below { Below 1024 codes.now }
+    requires callable { F.IsAlwaysCallable change }
+    ensures { (f : ℕ → ℕ) → ((n r : ℕ) → F.post change n r → r ≡ f n) → entries.new ≡ changed_all (with_late f) entries.old codes.now }
+{
+    for code in codes {
+        let entry = &mut entries[*code as usize];
+        entry.late = change(entry.late);
+    }
+}
+
+// The first codes of the giving list, as many as the buffer has entries for.
+fn first_codes<'a, H: Holder>(holder: &H, buffer: &'a mut [u16]) -> &'a [u16]
+    ensures { result.now ≡ take (length buffer.old) (H.Holder.giving holder.now) }
+{
+    let held = holder.front(buffer);
+    &buffer[..held]
+}
+
 // Changes the lateness of each of the first codes of the giving list, as many as are passed over.
 pub(crate) fn change_latenesses<H: Holder, F: Fn(u16) -> u16>(
     holder: &H,
@@ -45,11 +67,11 @@ pub(crate) fn change_latenesses<H: Holder, F: Fn(u16) -> u16>(
     requires callable { F.IsAlwaysCallable change }
     ensures { (f : ℕ → ℕ) → ((n r : ℕ) → F.post change n r → r ≡ f n) → entries.new ≡ changed_all (with_late f) entries.old (take passed (H.Holder.giving holder.now)) }
 {
-    // Kept (no plainer): a holder answers place by place; `filter_map(|place| holder.at(place).ok())` says this loop in more.
-    for place in 0..passed {
-        if let Ok(code) = holder.at(place) {
-            let entry = &mut entries[code as usize];
-            entry.late = change(entry.late);
-        }
+    if passed == 0 {
+        return;
     }
+    // Kept (rule of the project): an array of 1,024, since a docket needs no heap.
+    let mut codes = [0; 1024];
+    let most = codes.len().min(passed as usize);
+    change_each(first_codes(holder, &mut codes[..most]), entries, change);
 }

@@ -1,0 +1,29 @@
+-- A buffer whose front is written code by code, as far as a list and the buffer go. Assumes nothing.
+use Rattle.std.proofs.Common.{◌≡◌, ℕ, ◌+◌, ◌<◌, min, List, [], ◌∷◌, ◌++◌, length, get_or, take, drop, set, sym, ap, ◌∙◌, arith}
+use Rattle.std.proofs.lemmas.List.{drop_more, set_at, append_assoc, append-nil, length-take-le, take_more, take_min, drop_min, drop_all}
+use Rattle.holder.specs.Answers.{front_over}
+
+-- with one more code
+pub front_push : (front buffer now : List ℕ) (i c : ℕ) → length front ≡ i → i < length buffer → now ≡ front ++ drop i buffer → set now i c ≡ (front ++ c ∷ []) ++ drop (i + 1) buffer
+front_push front buffer now i c n h was =
+    ap (λ (b : List ℕ). set b i c) was ∙ ap (λ (b : List ℕ). set (front ++ b) i c) (drop_more buffer i 0 h)
+    ∙ set_at front (get_or buffer i 0) (drop (i + 1) buffer) c i n ∙ sym (append_assoc front (c ∷ []) (drop (i + 1) buffer))
+
+-- the code at the next place of a list
+pub front_more : (L buffer now : List ℕ) (i c : ℕ) → i < length L → i < length buffer → c ≡ get_or L i 0 → now ≡ take i L ++ drop i buffer → set now i c ≡ take (i + 1) L ++ drop (i + 1) buffer
+front_more L buffer now i c l h is was =
+    front_push (take i L) buffer now i c (length-take-le i L (omega arith)) h was
+    ∙ ap (λ (v : ℕ). (take i L ++ v ∷ []) ++ drop (i + 1) buffer) is ∙ ap (λ (f : List ℕ). f ++ drop (i + 1) buffer) (sym (take_more L i 0 l))
+
+-- all of it
+pub front_all : (L buffer : List ℕ) (n : ℕ) → n ≡ min (length L) (length buffer) → take n L ++ drop n buffer ≡ front_over L buffer
+front_all L buffer n e =
+    let f : n ≡ min (length buffer) (length L) = omega arith in
+    ap (λ (m : ℕ). take m L ++ drop n buffer) f ∙ ap (λ (l : List ℕ). l ++ drop n buffer) (take_min (length buffer) L)
+    ∙ ap (λ (m : ℕ). take (length buffer) L ++ drop m buffer) e ∙ ap (λ (l : List ℕ). take (length buffer) L ++ l) (drop_min (length L) buffer)
+
+-- the same, where a part of the buffer was written to its end
+pub front_part : (L buffer part : List ℕ) (n : ℕ) → n ≡ min (length L) (length buffer) → part ≡ take n L ++ drop n (take n buffer) → part ++ drop n buffer ≡ front_over L buffer
+front_part L buffer part n e was =
+    let end = drop_all n (take n buffer) (let l = length-take-le n buffer (omega arith) in omega arith) in
+    ap (λ (l : List ℕ). l ++ drop n buffer) (was ∙ ap (λ (l : List ℕ). take n L ++ l) end ∙ append-nil (take n L)) ∙ front_all L buffer n e
