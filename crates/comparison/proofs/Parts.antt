@@ -6,6 +6,10 @@ use Rattle.item.specs.declared.fault.ItemFault.{ItemFault}
 use Rattle.item.specs.Tickets.{ticket_items}
 use Rattle.item.specs.Stamps.{stamp_items}
 use Rattle.item.specs.Lanes.{lane_number, lane_named}
+use Rattle.std.specs.Result.{result_unwrap_or}
+use Rattle.frame.specs.declared.kind.Kind.TheVariants.{CountingQueue}
+use Rattle.frame.specs.Kinds.{kind_number, kind_named}
+use Rattle.examination.specs.Kinds.{seat_of}
 use Rattle.comparison.specs.Words.{words_of_item}
 use Rattle.comparison.specs.Cases.{of_parts, number_in, number_again, item_told, item_case}
 
@@ -29,3 +33,7 @@ module _ (body : List ℕ) where
   pub told_whole : (r : Result ℕ ItemFault) → length body ≡ 9 → item_told (slice_index body 0) body ≡ Some r → Some (words_of_item r) ≡ item_case body
   told_whole r nine told =
       ap (option_map words_of_item) (sym told) ∙ ap (λ n. cond (n == 9) (option_map words_of_item (item_told (slice_index body 0) body)) None) (sym nine)
+
+-- a kind is the one of its number, or the queue by counting, which has the seats of every number but 1
+pub named_seat : (n : ℕ) → seat_of (kind_number (result_unwrap_or (kind_named n) CountingQueue)) ≡ seat_of n
+named_seat n = grind (arith, nat_tests)
