@@ -50,6 +50,9 @@ within_rest call rest p e =
     let same : p.1 ≡ rest = cc in
     omega (arith, ap length same)
 
+within_same : {C : Type 0} (rest : List ℕ) (p : C × List ℕ) → p.1 ≡ rest → length p.1 ≤ length rest
+within_same rest p e = omega (arith, ap length e)
+
 within_none : {C : Type 0} (n : ℕ) (p : C × List ℕ) → None ≡ Some p → length p.1 ≤ n
 within_none n p e = cc
 
@@ -71,7 +74,7 @@ holder_shorter (letter ∷ bytes) p e =
     let within : length p.1 ≤ length bytes =
     within_either (length bytes) p (letter == 0) (within_rest Clear bytes p)
     (within_either (length bytes) p (letter == 1) (within_rest Count bytes p)
-    (within_number bytes _ p (λ n rest h. omega (arith, ap length (mapped (numbered_call letter n) rest p h))))) e in
+    (within_number bytes _ p (λ n rest h. within_same rest p (mapped (numbered_call letter n) rest p h)))) e in
     omega arith
 
 within_run : (count : ℕ) (bytes : List ℕ) (p : Call × List ℕ) → run_of_numbers count bytes ≡ Some p → length p.1 ≤ length bytes

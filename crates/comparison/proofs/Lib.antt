@@ -2,3 +2,4 @@ pub mod Hashings
 pub mod Lasts
 pub mod Parts
 pub mod Fronts
+pub mod Slots

@@ -6,6 +6,8 @@ use Rattle.item.specs.declared.fault.ItemFault.{ItemFault}
 use Rattle.item.specs.Tickets.{ticket_items}
 use Rattle.item.specs.Stamps.{stamp_items}
 use Rattle.item.specs.Lanes.{lane_number, lane_named}
+use Rattle.frame.specs.Kinds.{kind_number}
+use Rattle.examination.specs.Kinds.{any_kind, seat_of}
 use Rattle.comparison.specs.Words.{words_of_item}
 use Rattle.comparison.specs.Cases.{of_parts, number_in, number_again, item_told, item_case}
 
@@ -30,3 +32,7 @@ module _ (body : List ℕ) where
   told_whole r long told =
       let no : nat_lt (length body) 9 ≡ false = grind (arith, nat_tests) in
       ap (option_map words_of_item) (sym told) ∙ ap (λ b. cond b None (option_map words_of_item (item_told (slice_index body 0) body))) (sym no)
+
+-- a kind that a number is taken for has the seats of that number
+pub any_seat : (n : ℕ) → seat_of (kind_number (any_kind n)) ≡ seat_of n
+any_seat n = grind (arith, nat_tests)

@@ -1,11 +1,15 @@
 -- The calls that bytes say, one after another.
-use Rattle.std.specs.Prelude.{ℕ, zero, suc, ◌*◌, cond, List, [], ◌∷◌, length, take, drop, replicate, Some, None, Option, ◌==◌, nat_lt}
+use Rattle.std.specs.Prelude.{◌≡◌, ℕ, zero, suc, ◌*◌, cond, List, [], ◌∷◌, length, take, drop, replicate, Some, None, Option, Result, IfOk, IfSome, MatchOption, ◌==◌, nat_lt}
+use Rattle.std.specs.Borrow.{Bor}
+use Rattle.std.specs.declared.alloc.AllocError.{AllocError}
 use Rattle.std.specs.Int.{from_be_bytes, w16}
 use Rattle.std.specs.Option.{option_map}
 use Rattle.frame.specs.Orders.{numbers_of}
 use Rattle.turns.specs.declared.calls.HolderCall.{HolderCall}
 use Rattle.turns.specs.declared.calls.HolderCall.TheVariants.{Clear, Count, Rank, At, Add, Take}
 use Rattle.calls.specs.Rules.{Buffers}
+use Rattle.docket.specs.declared.slot.Slot.{Slot}
+use Rattle.docket.specs.Slots.{call_of}
 use Rattle.calls.specs.Calls.{Call, place, run, lift, certify}
 
 module _ {C : Type 0} where
@@ -72,3 +76,12 @@ front_docket_call (letter ∷ bytes) = docket_call_of_letter letter bytes
 
 abbrev pub docket_calls : List ℕ → List Call
 docket_calls bytes = all_calls front_docket_call bytes
+
+-- a slot that is made asks the call at the front of the bytes
+abbrev pub AsksFront : List ℕ → Option (Result Slot AllocError × Bor (List ℕ)) → Type 0
+AsksFront bytes r = IfSome r (λ p. IfOk p.0 (λ slot. IfSome (front_docket_call bytes) (λ q. call_of slot ≡ q.0)))
+
+-- from one list of calls to another: the slot that is made asks the first call, and the others are left; none where no call is left
+abbrev pub TakesFirst : List Call → Option (Result Slot AllocError) → List Call → Type 0
+TakesFirst before r after =
+    MatchOption r ((before ≡ []) × (after ≡ [])) (λ made. (length before ≡ suc (length after)) × IfOk made (λ slot. before ≡ call_of slot ∷ after))

@@ -1,7 +1,8 @@
 -- What a case is answered, by its letter and its body: none where it is no such case.
 use Rattle.std.specs.Prelude.{ℕ, ◌+◌, ◌*◌, min, cond, List, [], ◌∷◌, ◌++◌, length, take, drop, replicate, slice_index, is_ok, Some, None, Ok, Err, codes, Option, Result, ◌==◌, nat_lt}
 use Rattle.std.specs.Int.Digits.{number_from_digits}
-use Rattle.std.specs.Option.{option_map}
+use Rattle.std.specs.List.{flat_map}
+use Rattle.std.specs.Option.{option_map, unwrap_or}
 use Rattle.refusal.specs.Wording.{refusal_line}
 use Rattle.item.specs.declared.fault.ItemFault.{ItemFault}
 use Rattle.item.specs.declared.item.Item.{Ghosts}
@@ -19,12 +20,16 @@ use Rattle.trace.specs.Writing.{writing}
 use Rattle.holder.specs.Meanings.{Meaning, meaning}
 use Rattle.turns.specs.declared.calls.HolderCall.{HolderCall}
 use Rattle.turns.specs.Calls.{answer_for, after}
-use Rattle.order.specs.Steps.{SeatRule}
+use Rattle.order.specs.declared.operation.Paired.{Paired}
+use Rattle.order.specs.Steps.{SeatRule, giving_after}
+use Rattle.calls.specs.Calls.{Call, Answer, answers_for, placed_by}
+use Rattle.docket.specs.Pairs.{paired_all}
 use Rattle.examination.specs.Kinds.{seat_of}
 use Rattle.examination.specs.Traces.{type_of}
-use Rattle.comparison.specs.Calls.{holder_calls}
+use Rattle.comparison.specs.Calls.{holder_calls, docket_calls}
 use Rattle.comparison.specs.Hashes.{hash_of}
-use Rattle.comparison.specs.Words.{words_of_holder, words_of_item, words_of_reading, words_of_written}
+use Rattle.report.specs.Reports.{report_on}
+use Rattle.comparison.specs.Words.{words_of_answer, words_of_held, words_of_holder, words_of_item, words_of_reading, words_of_text, words_of_written}
 
 -- the number that so many bytes of a body say from a place on
 abbrev pub number_in : ℕ → ℕ → List ℕ → ℕ
@@ -45,8 +50,8 @@ unless_unread word said (Err e) = word ++ (codes " unread " ++ refusal_line (rea
 
 module _ {I : Type 0} (t : Ghosts I) where
   -- what is said of a trace that is read with room for 1,024 operations, by its operations
-  abbrev pub on_trace : List ℕ → (List (Operation I) → List ℕ) → List ℕ → List ℕ
-  on_trace word say trace = unless_unread word (say (held [] (reading t 1024 trace))) (answered (reading t 1024 trace))
+  abbrev pub of_trace : List ℕ → (List (Operation I) → List ℕ) → List ℕ → List ℕ
+  of_trace word say trace = unless_unread word (say (held [] (reading t 1024 trace))) (answered (reading t 1024 trace))
 
   -- two traces, read one after another onto one sheet with so much room
   abbrev pub words_of_readings : ℕ → List ℕ → List ℕ → List ℕ
@@ -66,24 +71,24 @@ module _ {I : Type 0} (t : Ghosts I) where
   words_of_writing kind k order size os = words_of_written (writing kind (length os) (length order) size) (hash_of (memory_after kind k order size os))
 
 -- the same, by the item type of the first trace
-abbrev pub words_of_two : ℕ → List ℕ → List ℕ → List ℕ
-words_of_two room one other = by_type one (words_of_readings stamp_items room one other) (words_of_readings ticket_items room one other)
+abbrev pub words_of_two_readings : ℕ → List ℕ → List ℕ → List ℕ
+words_of_two_readings room one other = by_type one (words_of_readings stamp_items room one other) (words_of_readings ticket_items room one other)
 
 -- a case of reading twice
 abbrev pub reading_case : List ℕ → Option (List ℕ)
-reading_case body = of_parts 6 (number_in 2 4 body) body (words_of_two (min (number_in 0 2 body) 1024))
+reading_case body = of_parts 6 (number_in 2 4 body) body (words_of_two_readings (min (number_in 0 2 body) 1024))
 
 -- the operations of a trace, written with a kind, a k and an order, by its item type
-abbrev pub words_of_written_trace : ℕ → ℕ → List ℕ → ℕ → List ℕ → List ℕ
-words_of_written_trace kind k order size trace =
-    by_type trace (on_trace stamp_items (codes "write") (words_of_writing stamp_items kind k order size) trace)
-    (on_trace ticket_items (codes "write") (words_of_writing ticket_items kind k order size) trace)
+abbrev pub words_of_trace_written : ℕ → ℕ → List ℕ → ℕ → List ℕ → List ℕ
+words_of_trace_written kind k order size trace =
+    by_type trace (of_trace stamp_items (codes "write") (words_of_writing stamp_items kind k order size) trace)
+    (of_trace ticket_items (codes "write") (words_of_writing ticket_items kind k order size) trace)
 
 -- a case of writing
 abbrev pub writing_case : List ℕ → Option (List ℕ)
 writing_case body =
     of_parts 7 (2 * number_in 5 2 body) body (λ order trace.
-    words_of_written_trace (slice_index body 0) (number_in 1 2 body) (numbers_of (number_in 5 2 body) order) (number_in 3 2 body) trace)
+    words_of_trace_written (slice_index body 0) (number_in 1 2 body) (numbers_of (number_in 5 2 body) order) (number_in 3 2 body) trace)
 
 -- the number of what a number names
 abbrev pub number_again : {A : Type 0} → (A → ℕ) → Result A ItemFault → Result ℕ ItemFault
@@ -110,3 +115,34 @@ words_of_calls seat m (call ∷ calls) = codes " " ++ (words_of_holder (answer_f
 abbrev pub holder_case : List ℕ → Option (List ℕ)
 holder_case [] = None
 holder_case (kind ∷ calls) = Some (codes "holder" ++ words_of_calls (seat_of kind) (meaning [] 0) (holder_calls calls))
+
+-- what calls on a docket are answered, one after another
+abbrev pub answer_and_stop : Answer → List ℕ
+answer_and_stop a = words_of_answer a ++ codes "; "
+
+abbrev pub words_of_answers : List Answer → List ℕ
+words_of_answers answers = codes "docket " ++ flat_map answer_and_stop answers
+
+-- the answers to calls on a new docket, and what its holder then holds
+abbrev pub words_of_session : SeatRule → List Paired → ℕ → List Call → List ℕ
+words_of_session seat ops k calls = words_of_answers (answers_for seat ops k [] calls) ++ words_of_held (giving_after seat ops (placed_by seat ops k [] calls))
+
+-- calls on a docket of a trace's operations, by its item type
+abbrev pub words_of_docket : SeatRule → ℕ → List ℕ → List ℕ → List ℕ
+words_of_docket seat k trace calls =
+    by_type trace (of_trace stamp_items (codes "docket") (λ os. words_of_session seat (paired_all stamp_items.number os) k (docket_calls calls)) trace)
+    (of_trace ticket_items (codes "docket") (λ os. words_of_session seat (paired_all ticket_items.number os) k (docket_calls calls)) trace)
+
+-- a case of calls on a docket
+abbrev pub docket_case : List ℕ → Option (List ℕ)
+docket_case body = of_parts 7 (number_in 3 4 body) body (words_of_docket (seat_of (slice_index body 0)) (number_in 1 2 body))
+
+-- the answer to a case, by its letter: T, R, W, D, H or I
+abbrev pub case_told : ℕ → List ℕ → Option (List ℕ)
+case_told letter body =
+    cond (letter == 84) (Some (words_of_text (report_on body).text))
+    (cond (letter == 82) (reading_case body)
+    (cond (letter == 87) (writing_case body) (cond (letter == 68) (docket_case body) (cond (letter == 72) (holder_case body) (cond (letter == 73) (item_case body) None)))))
+
+abbrev pub case_answer : ℕ → List ℕ → List ℕ
+case_answer letter body = unwrap_or (case_told letter body) (codes "no case")

@@ -1,4 +1,8 @@
 // The answer to a case, by its letter.
+ghost use Rattle.std.specs.Prelude.{◌≡◌, MatchResult, string_bytes};
+ghost use Rattle.report.specs.declared.report.ReportFault.TheVariants.{NoMemory};
+ghost use Rattle.comparison.specs.Cases.{case_answer};
+
 use crate::dockets::docket_answer;
 use crate::holders::holder_answer;
 use crate::items::item_answer;
@@ -7,7 +11,9 @@ use report::report::ReportFault;
 use std::alloc::Global;
 
 // The line that answers a case, without its line feed.
-pub fn answer_case(heap: Global, letter: u8, body: &[u8]) -> Result<String, ReportFault> {
+pub fn answer_case(heap: Global, letter: u8, body: &[u8]) -> Result<String, ReportFault>
+    ensures { MatchResult result (λ s. string_bytes s ≡ case_answer letter body.now) (λ e. e ≡ NoMemory) }
+{
     let answer = match letter {
         b'T' => Some(trace_answer(heap, body)?),
         b'R' => reading_answer(heap, body)?,

@@ -1,11 +1,19 @@
 // Cases of calls on a docket.
-ghost use Rattle.std.specs.Prelude.{◌≡◌, length, IfOk, string_bytes};
-ghost use Rattle.std.specs.Iterator.{at_most};
-ghost use Rattle.docket.specs.Slots.{reply_of};
+ghost use Rattle.std.specs.Prelude.{◌≡◌, ◌/◌, codes, map, length, IfOk, string_bytes};
+ghost use Rattle.std.specs.Iterator.{item_count};
+ghost use Rattle.std.specs.Option.{option_map};
+ghost use Rattle.frame.specs.Kinds.{kind_number};
+ghost use Rattle.frame.specs.Orders.{numbers_of};
+ghost use Rattle.calls.specs.Calls.{run, certify};
+ghost use Rattle.docket.specs.Lent.{owned};
+ghost use Rattle.docket.specs.Pairs.{paired_all, sheet_ops};
+ghost use Rattle.docket.specs.Slots.{call_of, reply_of};
+ghost use Rattle.examination.specs.Kinds.{seat_of};
 ghost use Rattle.comparison.specs.Behind.{IsShorterBehind};
 ghost use Rattle.comparison.specs.Hashes.{hash_of, bytes_of_shorts, bytes_of_buffers};
-ghost use Rattle.docket.specs.Lent.{owned};
-ghost use Rattle.comparison.specs.Words.{words_of_answer};
+ghost use Rattle.comparison.specs.Calls.{blank_buffers, front_docket_call, docket_calls, AsksFront, TakesFirst};
+ghost use Rattle.comparison.specs.Cases.{of_trace, words_of_answers, words_of_session, words_of_docket, docket_case};
+ghost use Rattle.comparison.specs.Words.{words_of_answer, words_of_held};
 
 use crate::hash::{OF_NOTHING, hash_on, hash_short, hash_shorts};
 use crate::numbers::{cut, next_number};
@@ -29,7 +37,9 @@ use sheet::sheet::Sheet;
 use std::alloc::{AllocError, Global};
 
 // A slot with a run along the order that the bytes say.
-fn run_slot(heap: Global, order: &[u8]) -> Result<Slot, AllocError> {
+fn run_slot(heap: Global, order: &[u8]) -> Result<Slot, AllocError>
+    ensures { IfOk result (λ s. call_of s ≡ run (numbers_of (length order.now / 2) order.now)) }
+{
     Ok(Slot::Run {
         order: Order::new(order).numbers(heap)?,
         new: 0,
@@ -43,7 +53,9 @@ fn certify_slot(
     ranks: u16,
     instants: u16,
     latenesses: u16,
-) -> Result<Slot, AllocError> {
+) -> Result<Slot, AllocError>
+    ensures { IfOk result (λ s. call_of s ≡ certify (blank_buffers ranks instants latenesses)) }
+{
     Ok(Slot::Certify {
         buffers: OwnBuffers {
             ranks: vec![in heap; 0xffffu16; ranks as usize]?,
@@ -56,7 +68,9 @@ fn certify_slot(
 
 // A slot with the call at the front of the bytes, and the bytes behind it; none where no whole call stands there.
 fn next_slot(heap: Global, bytes: &[u8]) -> Option<(Result<Slot, AllocError>, &[u8])>
-    ensures { IsShorterBehind bytes.now result }
+    ensures behind { option_map (λ p. p.1.now) result ≡ option_map (λ q. q.1) (front_docket_call bytes.now) }
+    ensures asks { AsksFront bytes.now result }
+    ensures shorter { IsShorterBehind bytes.now result }
 {
     let (letter, behind) = bytes.split_first()?;
     let answer = Err(DocketFault::NothingToLift);
@@ -92,7 +106,9 @@ struct Slots<'a> {
 impl<'a> Iterator for Slots<'a> {
     type Item = Result<Slot, AllocError>;
 
-    ghost remaining = { λ slots. at_most (length slots.calls.now) };
+    ghost next_gives = { λ before r after. TakesFirst (docket_calls before.calls.now) r (docket_calls after.calls.now) };
+
+    ghost remaining = { item_count (λ slots. docket_calls slots.calls.now) };
 
     fn next(&mut self) -> Option<Result<Slot, AllocError>> {
         let (slot, behind) = next_slot(self.heap, self.calls)?;
@@ -111,6 +127,13 @@ fn buffers_hash(buffers: &OwnBuffers) -> u64
         .iter()
         .fold(hash, |hash, n| hash_on(hash, &n.to_be_bytes()));
     hash_shorts(hash, &buffers.latenesses)
+}
+
+// Slots with all the calls that the bytes say.
+fn all_slots(heap: Global, calls: &[u8]) -> Result<Vec<Slot>, AllocError>
+    ensures { IfOk result (λ v. map call_of v.items ≡ docket_calls calls.now) }
+{
+    Slots { heap, calls }.try_collect(heap)
 }
 
 // What a slot was answered.
@@ -141,6 +164,28 @@ fn held_hash<H: Holder>(holder: &H) -> u64
         .fold(OF_NOTHING, hash_short)
 }
 
+// What the slots were answered, one after another.
+fn slots_words(heap: Global, slots: &[Slot]) -> Result<String, AllocError>
+    ensures { IfOk result (λ s. string_bytes s ≡ words_of_answers (map reply_of slots.now)) }
+{
+    let mut text = String::from_str(heap, "docket ")?;
+    for slot in slots {
+        let words = slot_words(heap, slot)?;
+        text.push_str(words.as_str())?;
+        text.push_str("; ")?;
+    }
+    Ok(text)
+}
+
+// What a holder still holds.
+fn held_words<H: Holder>(heap: Global, holder: &H) -> Result<String, AllocError>
+    ensures { IfOk result (λ s. string_bytes s ≡ words_of_held (H.giving holder.now)) }
+{
+    let count = holder.count();
+    let hash = held_hash(holder);
+    format!(in heap; "held {count} {hash}")
+}
+
 // The answers to the calls on a docket of the sheet, and what its holder still holds.
 fn attended<I: Item, H: Holder + Drop>(
     heap: Global,
@@ -148,19 +193,35 @@ fn attended<I: Item, H: Holder + Drop>(
     holder: H,
     k: u16,
     calls: &[u8],
-) -> Result<String, AllocError> {
-    let mut slots: Vec<Slot> = Slots { heap, calls }.try_collect(heap)?;
+) -> Result<String, AllocError>
+    ensures { IfOk result (λ s. string_bytes s ≡ words_of_session H.Holder.seat (sheet_ops I.Item.number sheet.now) k (docket_calls calls.now)) }
+{
+    let mut slots = all_slots(heap, calls)?;
     let docket = attend(sheet, holder, k, slots.as_mut_slice());
-    let mut text = String::from_str(heap, "docket ")?;
-    for slot in slots.as_slice() {
-        let words = slot_words(heap, slot)?;
-        write!(text, "{words}; ")?;
-    }
-    let holder = docket.close();
-    let count = holder.count();
-    let hash = held_hash(&holder);
-    write!(text, "held {count} {hash}")?;
+    let mut text = slots_words(heap, slots.as_slice())?;
+    let held = held_words(heap, &docket.close())?;
+    text.push_str(held.as_str())?;
     Ok(text)
+}
+
+// The same on a new holder of a kind.
+fn attended_by_kind<I: Item>(
+    heap: Global,
+    sheet: &Sheet<I>,
+    kind: Kind,
+    k: u16,
+    calls: &[u8],
+) -> Result<String, AllocError>
+    ensures { IfOk result (λ s. string_bytes s ≡ words_of_session (seat_of (kind_number kind)) (sheet_ops I.Item.number sheet.now) k (docket_calls calls.now)) }
+{
+    // Kept (no plainer): the kind is known at run time only, and a match is what picks a holder's type then.
+    match kind {
+        Kind::Queue => attended::<I, Queue>(heap, sheet, Queue::new(), k, calls),
+        Kind::Stack => attended::<I, Stack>(heap, sheet, Stack::new(), k, calls),
+        Kind::CountingQueue => {
+            attended::<I, CountingQueue>(heap, sheet, CountingQueue::new(), k, calls)
+        }
+    }
 }
 
 // The answers to the calls on a docket of the trace's operations.
@@ -170,34 +231,40 @@ fn on_trace<I: Item>(
     k: u16,
     trace: &[u8],
     calls: &[u8],
-) -> Result<String, AllocError> {
-    // Kept (no plainer): the kind is known at run time only, and a match is what picks a holder's type then.
-    on_sheet(heap, "docket", trace, |sheet: &Sheet<I>| match kind {
-        Kind::Queue => attended::<I, Queue>(heap, sheet, Queue::new(), k, calls),
-        Kind::Stack => attended::<I, Stack>(heap, sheet, Stack::new(), k, calls),
-        Kind::CountingQueue => attended::<I, CountingQueue>(
-            heap,
-            sheet,
-            CountingQueue::new(),
-            k,
-            calls,
-        ),
+) -> Result<String, AllocError>
+    ensures { IfOk result (λ s. string_bytes s ≡ of_trace I.Item (codes "docket") (λ os. words_of_session (seat_of (kind_number kind)) (paired_all I.Item.number os) k (docket_calls calls.now)) trace.now) }
+{
+    on_sheet(heap, "docket", trace, |sheet: &Sheet<I>| {
+        attended_by_kind(heap, sheet, kind, k, calls)
     })
 }
 
+// The same, for the item type of the trace.
+fn docket_by_type(
+    heap: Global,
+    kind: Kind,
+    k: u16,
+    trace: &[u8],
+    calls: &[u8],
+) -> Result<String, AllocError>
+    ensures { IfOk result (λ s. string_bytes s ≡ words_of_docket (seat_of (kind_number kind)) k trace.now calls.now) }
+{
+    // Kept (no plainer): the item type is known at run time only, and a choice of calls is what picks a type then.
+    if has_stamps(trace) {
+        on_trace::<item::stamp::Stamp>(heap, kind, k, trace, calls)
+    } else {
+        on_trace::<item::ticket::Ticket>(heap, kind, k, trace, calls)
+    }
+}
+
 // The answer to a case of calls on a docket, or none where it is no such case.
-pub(crate) fn docket_answer(heap: Global, body: &[u8]) -> Result<Option<String>, AllocError> {
+pub(crate) fn docket_answer(heap: Global, body: &[u8]) -> Result<Option<String>, AllocError>
+    ensures { IfOk result (λ s. option_map string_bytes s ≡ docket_case body.now) }
+{
     let k = number_at(body, 1, 2) as u16;
     let length = number_at(body, 3, 4) as usize;
     let Some((trace, calls)) = cut(body, 7, length) else {
         return Ok(None);
     };
-    let kind = any_kind(body[0]);
-    // Kept (no plainer): the item type is known at run time only, and a choice of calls is what picks a type then.
-    let text = if has_stamps(trace) {
-        on_trace::<item::stamp::Stamp>(heap, kind, k, trace, calls)?
-    } else {
-        on_trace::<item::ticket::Ticket>(heap, kind, k, trace, calls)?
-    };
-    Ok(Some(text))
+    Ok(Some(docket_by_type(heap, any_kind(body[0]), k, trace, calls)?))
 }

@@ -9,7 +9,7 @@ ghost use Rattle.trace.specs.Reading.{reading};
 ghost use Rattle.report.specs.declared.report.ReportFault.TheVariants.{NoMemory};
 ghost use Rattle.report.specs.Reports.{report_on};
 ghost use Rattle.comparison.specs.Hashes.{hash_of};
-ghost use Rattle.comparison.specs.Cases.{unless_unread, on_trace, words_of_readings, words_of_two, words_of_writing, words_of_written_trace, reading_case, writing_case};
+ghost use Rattle.comparison.specs.Cases.{unless_unread, of_trace, words_of_readings, words_of_two_readings, words_of_writing, words_of_trace_written, reading_case, writing_case};
 ghost use Rattle.comparison.specs.Words.{last_line, words_of_text, words_of_said, words_of_written, bytes_of_records, words_of_reading};
 
 use crate::hash::{OF_NOTHING, hash_on};
@@ -112,7 +112,7 @@ fn readings_by_type(
     first: &[u8],
     second: &[u8],
 ) -> Result<String, AllocError>
-    ensures { IfOk result (λ s. string_bytes s ≡ words_of_two (min room 1024) first.now second.now) }
+    ensures { IfOk result (λ s. string_bytes s ≡ words_of_two_readings (min room 1024) first.now second.now) }
 {
     // Kept (no plainer): the item type is known at run time only, and a choice of calls is what picks a type then.
     if has_stamps(first) {
@@ -167,7 +167,7 @@ pub(crate) fn on_sheet<I: Item, F: FnOnce(&Sheet<I>) -> Result<String, AllocErro
     answer: F,
 ) -> Result<String, AllocError>
     requires { F.IsAlwaysCallable answer }
-    ensures { (say : List (Operation I) → List ℕ) → ((s : _) (r : _) → FnOnceReturnsAt F.FnOnce answer s r → IfOk r (λ t. string_bytes t ≡ say (entered s))) → IfOk result (λ t. string_bytes t ≡ on_trace I.Item case.now say trace.now) }
+    ensures { (say : List (Operation I) → List ℕ) → ((s : _) (r : _) → FnOnceReturnsAt F.FnOnce answer s r → IfOk r (λ t. string_bytes t ≡ say (entered s))) → IfOk result (λ t. string_bytes t ≡ of_trace I.Item case.now say trace.now) }
 {
     let mut records = blank_records::<I>(heap, 1024)?;
     let mut sheet = Sheet::new(records.as_mut_slice());
@@ -204,7 +204,7 @@ fn writing<I: Item>(
     order: &[u16],
     size: usize,
 ) -> Result<String, AllocError>
-    ensures { IfOk result (λ s. string_bytes s ≡ on_trace I.Item (codes "write") (words_of_writing I.Item kind k order.now size) trace.now) }
+    ensures { IfOk result (λ s. string_bytes s ≡ of_trace I.Item (codes "write") (words_of_writing I.Item kind k order.now size) trace.now) }
 {
     on_sheet(heap, "write", trace, |sheet: &Sheet<I>| {
         write_words(heap, sheet, kind, k, order, size)
@@ -221,7 +221,7 @@ fn writing_by_type(
     order: &[u16],
     size: usize,
 ) -> Result<String, AllocError>
-    ensures { IfOk result (λ s. string_bytes s ≡ words_of_written_trace kind k order.now size trace.now) }
+    ensures { IfOk result (λ s. string_bytes s ≡ words_of_trace_written kind k order.now size trace.now) }
 {
     // Kept (no plainer): the item type is known at run time only, and a choice of calls is what picks a type then.
     if has_stamps(trace) {

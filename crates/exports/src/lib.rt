@@ -1,12 +1,13 @@
 // What callers in Rust and C can link: bytes in memory, examined.
 #![tactic(auto)]
 
-ghost use Rattle.std.specs.Prelude.{◌≡◌, ℕ, List, length, Result};
+ghost use Rattle.std.specs.Prelude.{◌≡◌, length, Result};
 ghost use Rattle.calls.specs.declared.certificate.Certificate.{Certificate};
 ghost use Rattle.docket.specs.InStep.{three};
 ghost use Rattle.examination.specs.declared.examining.ExamineFault.{ExamineFault};
 ghost use Rattle.examination.specs.Traces.{examination_of, Comes};
 ghost use Rattle.report.specs.Reports.{report_on};
+ghost use Rattle.comparison.specs.Cases.{case_answer};
 ghost use Rattle.exports.specs.Plain.{number_of_layer, plain, laid, LaidOrNone};
 
 use calls::certificate::Certificate;
@@ -128,7 +129,7 @@ pub extern "C" fn examiner_report(heap: Global, bytes: &[u8], text: &mut [u8]) -
 // Kept (C interface): a caller in C reads one number, so an Option is 0 here, which no answer has as its length.
 #[unsafe(no_mangle)]
 pub extern "C" fn examiner_answer(heap: Global, letter: u8, body: &[u8], text: &mut [u8]) -> usize
-    ensures { (answer : List ℕ) × LaidOrNone answer text.old result text.new }
+    ensures { LaidOrNone (case_answer letter body.now) text.old result text.new }
 {
     match answer_case(heap, letter, body) {
         Ok(answer) => lay(answer.as_bytes(), text),

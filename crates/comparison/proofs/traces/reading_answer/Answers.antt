@@ -1,5 +1,5 @@
 use Rattle.std.proofs.Common.{◌≡◌, ◌+◌, ◌≤◌, ◌∙◌, ap, arith, drop, length, lit≤, min, refl, Some, take}
-use Rattle.comparison.specs.Cases.{number_in, words_of_two}
+use Rattle.comparison.specs.Cases.{number_in, words_of_two_readings}
 use Rattle.comparison.proofs.Parts.{parts_there}
 use Rattle.comparison.proofs.traces.reading_answer.Goals as goal
 
@@ -12,6 +12,6 @@ returns c =
     let fits : 6 + number_in 2 4 c.args.body.now ≤ length c.args.body.now = omega (arith, within, n) in
     let split = c.in-Some.ensures.cases in
     ap (λ l. Some l) (c.in_ok-readings_by_type.ensures)
-    ∙ ap (λ r. Some (words_of_two (min r 1024) c.in-Some.first.now c.in-Some.second.now)) m
-    ∙ parts_there 6 (number_in 2 4 c.args.body.now) c.args.body.now (words_of_two (min (number_in 0 2 c.args.body.now) 1024)) fits
+    ∙ ap (λ r. Some (words_of_two_readings (min r 1024) c.in-Some.first.now c.in-Some.second.now)) m
+    ∙ parts_there 6 (number_in 2 4 c.args.body.now) c.args.body.now (words_of_two_readings (min (number_in 0 2 c.args.body.now) 1024)) fits
     (split.1 ∙ ap (λ k. take k (drop 6 c.args.body.now)) n) (split.2 ∙ ap (λ k. drop k (drop 6 c.args.body.now)) n)

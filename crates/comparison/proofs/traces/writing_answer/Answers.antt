@@ -1,6 +1,6 @@
 use Rattle.std.proofs.Common.{◌≡◌, ◌+◌, ◌*◌, ◌/◌, ◌≤◌, ◌∙◌, ap, arith, drop, length, lit≤, refl, Some, slice_index, take}
 use Rattle.frame.specs.Orders.{numbers_of}
-use Rattle.comparison.specs.Cases.{number_in, words_of_written_trace}
+use Rattle.comparison.specs.Cases.{number_in, words_of_trace_written}
 use Rattle.comparison.proofs.Parts.{parts_there}
 use Rattle.comparison.proofs.traces.writing_answer.Goals as goal
 
@@ -17,9 +17,9 @@ returns c =
     let order : c.as_slice.result.now ≡ numbers_of (number_in 5 2 c.args.body.now) c.in-Some.order.now =
     c.as_slice.ensures.value ∙ c.in_ok-order.ensures ∙ ap (λ b. numbers_of (length b / 2) b) bytes ∙ ap (λ h. numbers_of h c.in-Some.order.now) half in
     ap (λ l. Some l) (c.in_ok-text.ensures)
-    ∙ ap (λ x. Some (words_of_written_trace (slice_index c.args.body.now 0) x c.as_slice.result.now c.number_at-size.result c.in-Some.trace.now)) k
-    ∙ ap (λ x. Some (words_of_written_trace (slice_index c.args.body.now 0) (number_in 1 2 c.args.body.now) c.as_slice.result.now x c.in-Some.trace.now)) m
-    ∙ ap (λ x. Some (words_of_written_trace (slice_index c.args.body.now 0) (number_in 1 2 c.args.body.now) x (number_in 3 2 c.args.body.now) c.in-Some.trace.now)) order
+    ∙ ap (λ x. Some (words_of_trace_written (slice_index c.args.body.now 0) x c.as_slice.result.now c.number_at-size.result c.in-Some.trace.now)) k
+    ∙ ap (λ x. Some (words_of_trace_written (slice_index c.args.body.now 0) (number_in 1 2 c.args.body.now) c.as_slice.result.now x c.in-Some.trace.now)) m
+    ∙ ap (λ x. Some (words_of_trace_written (slice_index c.args.body.now 0) (number_in 1 2 c.args.body.now) x (number_in 3 2 c.args.body.now) c.in-Some.trace.now)) order
     ∙ parts_there 7 (2 * number_in 5 2 c.args.body.now) c.args.body.now
-    (λ o t. words_of_written_trace (slice_index c.args.body.now 0) (number_in 1 2 c.args.body.now) (numbers_of (number_in 5 2 c.args.body.now) o) (number_in 3 2 c.args.body.now) t) fits
+    (λ o t. words_of_trace_written (slice_index c.args.body.now 0) (number_in 1 2 c.args.body.now) (numbers_of (number_in 5 2 c.args.body.now) o) (number_in 3 2 c.args.body.now) t) fits
     (split.1 ∙ ap (λ x. take (2 * x) (drop 7 c.args.body.now)) n) (split.2 ∙ ap (λ x. drop (2 * x) (drop 7 c.args.body.now)) n)
