@@ -178,7 +178,7 @@ pub(crate) fn on_sheet<I: Item, F: FnOnce(&Sheet<I>) -> Result<String, AllocErro
 }
 
 // The operations of a sheet, written with a kind, k and order into so many bytes.
-// Kept (no plainer): the kind is a number here, since `write` has to refuse a wrong one.
+// Kept (rule of the project): the kind is a number here, since `write` has to refuse a wrong one.
 fn write_words<I: Item>(
     heap: Global,
     sheet: &Sheet<I>,
@@ -212,7 +212,7 @@ fn writing<I: Item>(
 }
 
 // The same, for the item type of the trace.
-// Kept (no plainer): the kind is a number here, since `write` has to refuse a wrong one.
+// Kept (rule of the project): the kind is a number here, since `write` has to refuse a wrong one.
 fn writing_by_type(
     heap: Global,
     trace: &[u8],
