@@ -38,7 +38,7 @@ pub fn certify_of_kind<I: Item>(
 }
 
 // The kind of a number: 0 the queue, 1 the stack, and else the queue by counting.
-// Kept (no plainer): every number is taken, so that none can be refused; a `Kind` goes to `certify_of_kind`.
+// Kept (no plainer): a From would stand against the `TryFrom`, which refuses a number above 2.
 pub fn any_kind(number: u8) -> Kind
     ensures { result ≡ any_kind number }
 {
@@ -46,6 +46,7 @@ pub fn any_kind(number: u8) -> Kind
 }
 
 // The same for the number of a kind, as `any_kind` has it.
+// Kept (no plainer): every number is taken, so that none can be refused; a `Kind` goes to `certify_of_kind`.
 pub fn certify_by_kind<I: Item>(
     sheet: &Sheet<I>,
     kind: u8,
