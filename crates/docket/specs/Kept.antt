@@ -1,5 +1,5 @@
 -- What every ledger keeps. Assumes nothing.
-use Rattle.std.specs.Prelude.{◌≡◌, ℕ, ◌+◌, ◌/◌, ◌<◌, ◌≤◌, false, not, List, map, length, take, slice_index, slice_index_or}
+use Rattle.std.specs.Prelude.{◌≡◌, ℕ, ◌+◌, ◌-◌, ◌*◌, ◌^◌, ◌<◌, ◌≤◌, min, false, cond, not, List, map, length, take, slice_index, slice_index_or}
 use Rattle.order.specs.declared.operation.Deed.TheVariants.{Add}
 use Rattle.order.specs.declared.operation.Paired.{Paired}
 use Rattle.calls.specs.Rules.{unplaced}
@@ -49,10 +49,14 @@ Flagged es n ss m = (x : ℕ) → x < n → (entry_of es x).placed ≡ not (unpl
 abbrev pub end_at : List ℕ → ℕ → ℕ
 end_at ts x = slice_index ts (1024 + x)
 
--- at each place from 2 on stands no sooner an instant than at half the place: so the soonest of all stands at 1
+-- at each place below 1,024 stands the lesser of the two at twice the place and after it: so the soonest of all stands at 1
 abbrev pub Lesser : List ℕ → Type 0
-Lesser ts = (i : ℕ) → 2 ≤ i → i < 2048 → slice_index ts (i / 2) ≤ slice_index ts i
+Lesser ts = (p : ℕ) → 1 ≤ p → p < 1024 → slice_index ts p ≡ min (slice_index ts (2 * p)) (slice_index ts (2 * p + 1))
 
--- for each of the n operations that is not placed stands its end
+-- the end of an operation that is not placed, and else the last instant of all
+abbrev pub awaited_end : Entry → ℕ
+awaited_end e = cond e.placed (2 ^ 64 - 1) e.paired.end
+
+-- that stands for each of the n operations
 abbrev pub Awaits : List ℕ → ℕ → List Entry → Type 0
-Awaits ts n es = (x : ℕ) → x < n → (entry_of es x).placed ≡ false → end_at ts x ≡ (entry_of es x).paired.end
+Awaits ts n es = (x : ℕ) → x < n → end_at ts x ≡ awaited_end (entry_of es x)

@@ -1,10 +1,10 @@
 // The ends of the operations that are not placed, with the soonest of them at hand.
-ghost use Rattle.std.specs.Prelude.{◌≡◌, ℕ, ◌+◌, ◌*◌, ◌<◌, ◌≤◌, length, slice_index, slice_set};
+ghost use Rattle.std.specs.Prelude.{◌≡◌, ℕ, ◌+◌, ◌*◌, ◌<◌, ◌≤◌, min, length, slice_index, slice_set};
 ghost use Rattle.docket.specs.Kept.{entry_of, end_at, Lesser};
 
 use crate::entry::Entry;
 
-// A tree of instants. At 1,024 and an operation's number stands its end, or the last instant of all where it is awaited
+// A tree of instants. At 1,024 plus an operation's number stands its end, or the last instant of all where it is awaited
 // no longer; at each lower place from 1 on, the lesser of the two that stand at twice the place and after it.
 // Kept (rule of the project): an array, which is memory of a fixed size.
 #[derive(Drop)]
@@ -18,8 +18,7 @@ pub struct Awaited {
 fn lesser_below(least: &[u64; 2048], place: usize) -> u64
     requires long { length least.now ≡ 2048 }
     requires within { place < 1024 }
-    ensures left { result ≤ slice_index least.now (2 * place) }
-    ensures right { result ≤ slice_index least.now (2 * place + 1) }
+    ensures { result ≡ min (slice_index least.now (2 * place)) (slice_index least.now (2 * place + 1)) }
 {
     least[2 * place].min(least[2 * place + 1])
 }
@@ -69,7 +68,7 @@ impl Awaited {
 
     // The soonest end.
     pub(crate) fn soonest(&self) -> u64
-        ensures { (x : ℕ) → x < 1024 → result ≤ end_at self.now.least x }
+        ensures { result ≡ slice_index self.now.least 1 }
     {
         self.least[1]
     }

@@ -5,7 +5,7 @@ use Rattle.docket.specs.declared.step.Step.{Step}
 use Rattle.docket.specs.Moves.{with_flag, changed_at}
 use Rattle.docket.specs.Kept.{numbers_in, Known, Flagged}
 use Rattle.docket.proofs.Books.{known_marked, once_marked, flagged_marked}
-use Rattle.docket.proofs.Awaiting.{awaits_marked}
+use Rattle.docket.proofs.Awaiting.{awaits_flag}
 use Rattle.docket.proofs.Ties.{long_numbers, unmarked, has_room}
 use Rattle.docket.proofs.ledger.Ledger.mark.Goals as goal
 
@@ -26,7 +26,7 @@ invariant_of-self c =
       known = subst (λ (ss : List ℕ). Known l.count ss (l.placed + 1)) s (known_marked (numbers_in l.steps) l.placed x h l.count l.known c.requires.within);
       once = subst (λ (ss : List ℕ). Once (take (l.placed + 1) ss)) s (once_marked (numbers_in l.steps) l.placed x h l.once z);
       flagged = subst (λ (ss : List ℕ). Flagged (changed_at (with_flag true) l.entries x) l.count ss (l.placed + 1)) s (flagged_marked (numbers_in l.steps) l.placed x h l.entries l.count (omega arith) l.flagged);
-      ends = awaits_marked l.awaited.least _ l.count x l.entries c.set.ensures.others l.ends (omega arith);
+      ends = awaits_flag true l.awaited.least _ l.count x l.entries (omega arith) c.set.ensures.own c.set.ensures.others l.ends;
     }
 
 pub returns-clause-steps : goal.returns-clause-steps

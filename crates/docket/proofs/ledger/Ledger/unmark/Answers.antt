@@ -1,8 +1,8 @@
-use Rattle.std.proofs.Common.{◌-◌, ◌<◌, get_or, arith, length-set}
+use Rattle.std.proofs.Common.{◌-◌, ◌<◌, false, get_or, arith, length-set}
 use Rattle.docket.specs.declared.ledger.Ledger.{Ledger}
 use Rattle.docket.specs.Kept.{numbers_in}
 use Rattle.docket.proofs.Books.{once_unmarked, flagged_unmarked}
-use Rattle.docket.proofs.Awaiting.{awaits_unmarked}
+use Rattle.docket.proofs.Awaiting.{awaits_flag}
 use Rattle.docket.proofs.Ties.{no_step, long_numbers, number_at}
 use Rattle.docket.proofs.ledger.Ledger.unmark.Goals as goal
 
@@ -27,5 +27,5 @@ invariant_of-self c =
       known = (λ i il. l.known i (omega arith));
       once = once_unmarked (numbers_in l.steps) l.placed _ c.requires (omega (arith, long_numbers l)) is l.once;
       flagged = flagged_unmarked (numbers_in l.steps) l.placed _ c.requires (omega (arith, long_numbers l)) is l.entries l.count (omega arith) l.once l.flagged;
-      ends = awaits_unmarked l.awaited.least _ l.count _ l.entries c.set.ensures.others l.ends c.set.ensures.own;
+      ends = awaits_flag false l.awaited.least _ l.count _ l.entries (omega arith) c.set.ensures.own c.set.ensures.others l.ends;
     }

@@ -1,4 +1,4 @@
-use Rattle.std.proofs.Common.{◌≡◌, ℕ, ◌+◌, ◌/◌, refl, ap, ◌∙◌, ⊎_elim, arith, length-set}
+use Rattle.std.proofs.Common.{◌≡◌, ◌+◌, ◌/◌, refl, ◌∙◌, ⊎_elim, arith, length-set}
 use Rattle.std.proofs.lemmas.Bool.{cases_eq}
 use Rattle.std.proofs.lemmas.List.{get_or-set_other}
 use Rattle.docket.proofs.Awaiting.{put_here, put_there}
@@ -11,7 +11,7 @@ loop-place-init c =
       length-set ts n c.args.end ∙ c.requires.long,
       omega arith,
       omega arith,
-      λ i two high ne. put_there ts n c.args.end i (λ e. omega arith) ne (c.requires.lesser i two high),
+      λ q pos high above. put_there ts n c.args.end q (λ e. omega arith) above pos (c.requires.lesser q pos high),
       λ x. refl,
     )
 
@@ -25,10 +25,10 @@ loop-place-preserved c =
       length-set ts p v ∙ was.0,
       omega arith,
       omega arith,
-      λ i two high ne.
+      λ q pos high above.
           ⊎_elim
-          (λ (e : i / 2 ≡ p). put_here ts p v i (omega arith) (omega (arith, was.0)) c.lesser_below.ensures.left c.lesser_below.ensures.right e)
-          (λ (e : i / 2 ≡ p → ⊥). put_there ts p v i e ne (was.3 i two high (λ q. e (ap (λ (k : ℕ). k / 2) q))))
-          (cases_eq (i / 2) p),
+          (λ (e : q ≡ p). put_here ts p v (omega arith) (omega (arith, was.0)) c.lesser_below.ensures q e)
+          (λ (e : q ≡ p → ⊥). put_there ts p v q e above pos (was.3 q pos high e))
+          (cases_eq q p),
       λ x. get_or-set_other ts p (1024 + x) v 0 (λ e. omega arith) ∙ was.4 x,
     )

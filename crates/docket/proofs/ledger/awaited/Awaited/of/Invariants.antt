@@ -1,5 +1,6 @@
-use Rattle.std.proofs.Common.{◌≡◌, ℕ, ◌/◌, ◌<◌, ◌≤◌, length, get_or}
+use Rattle.std.proofs.Common.{◌≡◌, ℕ, ◌<◌, ◌≤◌, length}
 use Rattle.docket.specs.Kept.{entry_of, end_at}
+use Rattle.docket.proofs.Awaiting.{LesserAt}
 use Rattle.docket.proofs.ledger.awaited.Awaited.of.Given as goal
 
 abbrev pub invariant-loop-number : goal.invariant-loop-number
@@ -8,5 +9,5 @@ invariant-loop-number l = (length l.least ≡ 2048) × ((x : ℕ) → x < l.numb
 abbrev pub invariant-loop-place : goal.invariant-loop-place
 invariant-loop-place l =
     (length l.least ≡ 2048)
-    × ((i : ℕ) → 2 ≤ i → i < 2048 → l.place ≤ i / 2 → get_or l.least (i / 2) 0 ≤ get_or l.least i 0)
+    × ((q : ℕ) → l.place ≤ q → 1 ≤ q → q < 1024 → LesserAt l.least q)
     × ((x : ℕ) → x < length l.table → end_at l.least x ≡ (entry_of l.table x).paired.end)
