@@ -17,7 +17,8 @@ use Rattle.order.proofs.Whole.{placed_of_true}
 use Rattle.order.proofs.Earliest.{earliest_admits, earliest_below, length_earliest}
 use Rattle.order.proofs.Splits.{step_by_step}
 use Rattle.order.proofs.Stretches.{shortest, only}
-use Rattle.calls.specs.Rules.{Buffers, numbers_from, largest_of, over, latenesses_of, certificate_of, written}
+use Rattle.giving.specs.Fronts.{over}
+use Rattle.calls.specs.Rules.{Buffers, numbers_from, largest_of, latenesses_of, certificate_of, written}
 use Rattle.calls.specs.Meanings.{Costs, Kept, Largest, Granted}
 use Rattle.order.proofs.Growing.{length_ranks, ranks_append}
 use Rattle.calls.proofs.Grants.{Long, length_values, sums}

@@ -51,7 +51,7 @@ module _ (seat : SeatRule) (ops : List Paired) (k : ℕ) (p : List ℕ) (x : ℕ
   ranked = cond (not (has_rank deed held)) (Err (NotHeld (length p))) bounded
 
   abbrev timed : Result ℕ DocketFault
-  timed = unless_early p (waits_for ops p x) ranked
+  timed = unless_early (length p) (waits_for ops p x) ranked
 
   abbrev fresh : Result ℕ DocketFault
   fresh = cond (not (unplaced p x)) (Err (PlacedAlready (length p))) timed
@@ -66,7 +66,7 @@ module _ (seat : SeatRule) (ops : List Paired) (k : ℕ) (p : List ℕ) (x : ℕ
       cond_both (not (unplaced p x)) (Err (PlacedAlready (length p))) timed P
       (λ e. (refl, (l, let z = eqb-false (times x p) 0 (not-true (unplaced p x) e) in omega (arith, z))))
       (λ e1. let z : times x p ≡ 0 = eqb-true (times x p) 0 (not-false (unplaced p x) e1) in
-      elim (waits_for ops p x) as (λ o. Lowest (waiting ops p x) 0 n o → P (unless_early p o ranked)) [
+      elim (waits_for ops p x) as (λ o. Lowest (waiting ops p x) 0 n o → P (unless_early (length p) o ranked)) [
         | Some b ↦ λ h. (refl, ((l, z), waits ops p x b (omega arith) h.2, λ c u. waits_not ops p x c (h.3 c (omega arith) u)))
         | None ↦ λ h.
             let free : Free ops p x = λ b w. waits_not ops p x b (h b (omega arith) (omega arith)) w in
@@ -99,7 +99,7 @@ module _ (seat : SeatRule) (ops : List Paired) (k : ℕ) (p : List ℕ) (x : ℕ
 
   to_ranked : New ops p x → Free ops p x → place_answer seat ops k p x ≡ ranked
   to_ranked h free =
-      to_timed h ∙ ap (λ (o : Option ℕ). unless_early p o ranked) (waits_is ops p x None (λ c l u. waits_false ops p x c (omega arith) (free c)))
+      to_timed h ∙ ap (λ (o : Option ℕ). unless_early (length p) o ranked) (waits_is ops p x None (λ c l u. waits_false ops p x c (omega arith) (free c)))
 
   to_bounded : New ops p x → Free ops p x → has_rank deed held ≡ true → place_answer seat ops k p x ≡ bounded
   to_bounded h free ok = to_ranked h free ∙ cond-false (not (has_rank deed held)) (Err (NotHeld (length p))) bounded (not_from_true (has_rank deed held) ok)
@@ -117,7 +117,7 @@ module _ (seat : SeatRule) (ops : List Paired) (k : ℕ) (p : List ℕ) (x : ℕ
       ∙ ap (λ m. Err (PlacedAlready m)) (sym h.0))
   refusal_is (TooEarly s b) h =
       to_timed h.1.0
-      ∙ (ap (λ (o : Option ℕ). unless_early p o ranked)
+      ∙ (ap (λ (o : Option ℕ). unless_early (length p) o ranked)
       (waits_is ops p x (Some b) (omega arith, omega arith, waits_true ops p x b h.1.1, λ c l u. waits_false ops p x c (omega arith) (h.1.2 c u)))
       ∙ ap (λ m. Err (TooEarly m b)) (sym h.0))
   refusal_is (NotHeld s) h =

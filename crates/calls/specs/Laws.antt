@@ -3,7 +3,7 @@ use Rattle.std.specs.Prelude.{◌≡◌, ℕ, true, false, ◌⊎◌, List, [], 
 use Rattle.order.specs.declared.operation.Paired.{Paired}
 use Rattle.order.specs.Steps.{SeatRule, rank_errors, passings_over, sum}
 use Rattle.order.specs.Orders.{Placed, TrueOrder}
-use Rattle.order.specs.Wordings.{InTimeOrder}
+use Rattle.order.specs.ByPlace.{InTimeOrder}
 use Rattle.calls.specs.declared.fault.DocketFault.{DocketFault}
 use Rattle.calls.specs.declared.fault.DocketFault.TheVariants.{AboveBound}
 use Rattle.calls.specs.declared.certificate.Certificate.{Certificate}

@@ -1,5 +1,6 @@
 -- The rules: what place, run, lift and certify answer and write, given the steps p placed before. Assumes nothing.
-use Rattle.std.specs.Prelude.{ℕ, zero, suc, ◌-◌, max, Bool, cond, not, ◌&&◌, ◌||◌, List, [], ◌∷◌, ◌++◌, map, length, take, drop, Some, None, Ok, Err, Option, Result, ◌==◌, nat_le, nat_lt, slice_index}
+use Rattle.std.specs.Prelude.{ℕ, zero, suc, ◌-◌, max, Bool, cond, not, ◌&&◌, ◌||◌, List, [], ◌∷◌, ◌++◌, map, length, take, Some, None, Ok, Err, Option, Result, ◌==◌, nat_le, nat_lt, slice_index}
+use Rattle.giving.specs.Fronts.{over}
 use Rattle.giving.specs.Lists.{times, place}
 use Rattle.order.specs.declared.operation.Paired.{Paired}
 use Rattle.order.specs.Steps.{SeatRule, operation, has_rank, rank_error, rank_errors, lateness, giving_after, sum}
@@ -23,17 +24,17 @@ unplaced p b = times b p == 0
 abbrev pub waits_for : List Paired → List ℕ → ℕ → Option ℕ
 waits_for ops p x = lowest (λ b. unplaced p b && precedes ops b x) 0 (length ops)
 
--- refused as too early for the operation that x waits for, if any, else the answer a
-abbrev pub unless_early : List ℕ → Option ℕ → Result ℕ DocketFault → Result ℕ DocketFault
-unless_early p (Some b) a = Err (TooEarly (length p) b)
-unless_early p None a = a
+-- the step after m others is refused as too early for the operation that it waits for, if any, else the answer is a
+abbrev pub unless_early : ℕ → Option ℕ → Result ℕ DocketFault → Result ℕ DocketFault
+unless_early m (Some b) a = Err (TooEarly m b)
+unless_early m None a = a
 
 -- the rank error of x after p, or the first rule that x breaks
 abbrev pub place_answer : SeatRule → List Paired → ℕ → List ℕ → ℕ → Result ℕ DocketFault
 place_answer seat ops k p x =
     cond (nat_le (length ops) x) (Err (NoSuchOperation (length p)))
     (cond (not (unplaced p x)) (Err (PlacedAlready (length p)))
-    (unless_early p (waits_for ops p x)
+    (unless_early (length p) (waits_for ops p x)
     (cond (not (has_rank (operation ops x).deed (giving_after seat ops p))) (Err (NotHeld (length p)))
     (cond (nat_lt k (rank_error (operation ops x).deed (giving_after seat ops p))) (Err (AboveBound (length p) (rank_error (operation ops x).deed (giving_after seat ops p))))
     (Ok (rank_error (operation ops x).deed (giving_after seat ops p)))))))
@@ -75,6 +76,10 @@ pub record Buffers : Type 0 where
   pub instants : List ℕ
   pub latenesses : List ℕ
 
+-- three lists over the first entries of three buffers
+abbrev pub over_each : Buffers → Buffers → Buffers
+over_each xs b = record { ranks = over xs.ranks b.ranks; instants = over xs.instants b.instants; latenesses = over xs.latenesses b.latenesses }
+
 -- i, i + 1, .., i + n - 1
 abbrev pub numbers_from : ℕ → ℕ → List ℕ
 numbers_from i zero = []
@@ -84,9 +89,9 @@ abbrev pub largest_of : List ℕ → ℕ
 largest_of [] = 0
 largest_of (x ∷ xs) = max x (largest_of xs)
 
--- xs over the first entries of a buffer, the rest as it was
-abbrev pub over : List ℕ → List ℕ → List ℕ
-over xs buffer = xs ++ drop (length xs) buffer
+-- the sum of rank errors, the largest, and the first place where it stands
+abbrev pub summed_up : List ℕ → Certificate
+summed_up rs = record { total = sum rs; largest = largest_of rs; first = place (largest_of rs) rs }
 
 -- the lowest operation that is not among the steps
 abbrev pub missing : List Paired → List ℕ → Option ℕ
@@ -106,8 +111,12 @@ module _ (seat : SeatRule) (ops : List Paired) where
   abbrev pub latenesses_of : List ℕ → List ℕ
   latenesses_of p = map (λ a. lateness seat ops a p) (numbers_from 0 (length ops))
 
+  -- the three lists of a certificate: the rank errors and the instants of the steps, and the latenesses
+  abbrev pub figures_of : List ℕ → Buffers
+  figures_of p = record { ranks = rank_errors seat ops p; instants = earliest ops p; latenesses = latenesses_of p }
+
   abbrev pub certificate_of : List ℕ → Certificate
-  certificate_of p = record { total = sum (rank_errors seat ops p); largest = largest_of (rank_errors seat ops p); first = place (largest_of (rank_errors seat ops p)) (rank_errors seat ops p) }
+  certificate_of p = summed_up (rank_errors seat ops p)
 
   -- refused where steps are missing, else where a buffer is too short
   abbrev pub certify_answer : List ℕ → Buffers → Result Certificate DocketFault
@@ -116,4 +125,4 @@ module _ (seat : SeatRule) (ops : List Paired) where
   -- the buffers after it: a refusal leaves them as they were
   abbrev pub written : List ℕ → Buffers → Result Certificate DocketFault → Buffers
   written p b (Err e) = b
-  written p b (Ok c) = record { ranks = over (rank_errors seat ops p) b.ranks; instants = over (earliest ops p) b.instants; latenesses = over (latenesses_of p) b.latenesses }
+  written p b (Ok c) = over_each (figures_of p) b

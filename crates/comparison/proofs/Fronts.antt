@@ -7,7 +7,7 @@ use Rattle.turns.specs.declared.calls.HolderCall.{HolderCall}
 use Rattle.turns.specs.declared.calls.HolderCall.TheVariants.{Clear, Count}
 use Rattle.frame.specs.Orders.{numbers_of}
 use Rattle.calls.specs.Calls.{Call, place, run, lift, certify}
-use Rattle.comparison.specs.Calls.{and_behind, first_calls, all_calls, with_number, numbered_call, front_holder_call, blank_buffers, run_of_numbers, front_docket_call}
+use Rattle.comparison.specs.Calls.{and_behind, first_calls, all_calls, with_number, call_with_number, front_holder_call, blank_buffers, run_of_numbers, front_docket_call}
 
 module _ {C : Type 0} (front : List ℕ → Option (C × List ℕ)) where
   none_at : (n : ℕ) (bytes : List ℕ) → front bytes ≡ None → first_calls front n bytes ≡ []
@@ -43,7 +43,7 @@ mapped : {C : Type 0} (o : Option C) (rest : List ℕ) (p : C × List ℕ) → o
 mapped None rest p e = cc
 mapped (Some call) rest p e = cc
 
--- ---- what is behind a call is part of what is behind its letter
+-- ---- what is behind a call is part of what is behind its tag
 
 within_rest : {C : Type 0} (call : C) (rest : List ℕ) (p : C × List ℕ) → Some (call, rest) ≡ Some p → length p.1 ≤ length rest
 within_rest call rest p e =
@@ -70,11 +70,11 @@ within_number bytes say p within e =
 -- behind a call on a holder there is less
 pub holder_shorter : (bytes : List ℕ) (p : HolderCall × List ℕ) → front_holder_call bytes ≡ Some p → length p.1 < length bytes
 holder_shorter [] p e = cc
-holder_shorter (letter ∷ bytes) p e =
+holder_shorter (tag ∷ bytes) p e =
     let within : length p.1 ≤ length bytes =
-    within_either (length bytes) p (letter == 0) (within_rest Clear bytes p)
-    (within_either (length bytes) p (letter == 1) (within_rest Count bytes p)
-    (within_number bytes _ p (λ n rest h. within_same rest p (mapped (numbered_call letter n) rest p h)))) e in
+    within_either (length bytes) p (tag == 0) (within_rest Clear bytes p)
+    (within_either (length bytes) p (tag == 1) (within_rest Count bytes p)
+    (within_number bytes _ p (λ n rest h. within_same rest p (mapped (call_with_number tag n) rest p h)))) e in
     omega arith
 
 within_run : (count : ℕ) (bytes : List ℕ) (p : Call × List ℕ) → run_of_numbers count bytes ≡ Some p → length p.1 ≤ length bytes
@@ -85,12 +85,12 @@ within_run count bytes p e =
 -- behind a call on a docket there is less
 pub docket_shorter : (bytes : List ℕ) (p : Call × List ℕ) → front_docket_call bytes ≡ Some p → length p.1 < length bytes
 docket_shorter [] p e = cc
-docket_shorter (letter ∷ bytes) p e =
+docket_shorter (tag ∷ bytes) p e =
     let within : length p.1 ≤ length bytes =
-    within_either (length bytes) p (letter == 0) (within_number bytes _ p (λ x rest h. within_rest (place x) rest p h))
-    (within_either (length bytes) p (letter == 1) (within_number bytes _ p (λ count rest h. within_run count rest p h))
-    (within_either (length bytes) p (letter == 2) (within_rest lift bytes p)
-    (within_either (length bytes) p (letter == 3)
+    within_either (length bytes) p (tag == 0) (within_number bytes _ p (λ x rest h. within_rest (place x) rest p h))
+    (within_either (length bytes) p (tag == 1) (within_number bytes _ p (λ count rest h. within_run count rest p h))
+    (within_either (length bytes) p (tag == 2) (within_rest lift bytes p)
+    (within_either (length bytes) p (tag == 3)
     (within_number bytes _ p
     (λ r rest h. within_number rest _ p (λ i rest2 h2. within_number rest2 _ p (λ t rest3 h3. within_rest (certify (blank_buffers r i t)) rest3 p h3) h2) h)) (within_none (length bytes) p)))) e in
     omega arith

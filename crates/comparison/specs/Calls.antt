@@ -33,19 +33,19 @@ module _ {C : Type 0} where
 
 -- ---- on a holder
 
--- the call of a letter with a number
-abbrev pub numbered_call : ℕ → ℕ → Option HolderCall
-numbered_call letter n = cond (letter == 2) (Some (Rank n)) (cond (letter == 3) (Some (At n)) (cond (letter == 4) (Some (Add n)) (cond (letter == 5) (Some (Take n)) None)))
+-- the call of a tag with a number
+abbrev pub call_with_number : ℕ → ℕ → Option HolderCall
+call_with_number tag n = cond (tag == 2) (Some (Rank n)) (cond (tag == 3) (Some (At n)) (cond (tag == 4) (Some (Add n)) (cond (tag == 5) (Some (Take n)) None)))
 
--- the call of a letter, and what is behind it
-abbrev pub call_of_letter : ℕ → List ℕ → Option (HolderCall × List ℕ)
-call_of_letter letter bytes =
-    cond (letter == 0) (Some (Clear, bytes))
-    (cond (letter == 1) (Some (Count, bytes)) (with_number bytes (λ n rest. option_map (λ call. (call, rest)) (numbered_call letter n))))
+-- the call of a tag, and what is behind it
+abbrev pub call_of_tag : ℕ → List ℕ → Option (HolderCall × List ℕ)
+call_of_tag tag bytes =
+    cond (tag == 0) (Some (Clear, bytes))
+    (cond (tag == 1) (Some (Count, bytes)) (with_number bytes (λ n rest. option_map (λ call. (call, rest)) (call_with_number tag n))))
 
 abbrev pub front_holder_call : List ℕ → Option (HolderCall × List ℕ)
 front_holder_call [] = None
-front_holder_call (letter ∷ bytes) = call_of_letter letter bytes
+front_holder_call (tag ∷ bytes) = call_of_tag tag bytes
 
 abbrev pub holder_calls : List ℕ → List HolderCall
 holder_calls bytes = all_calls front_holder_call bytes
@@ -61,18 +61,18 @@ blank_buffers ranks instants latenesses =
 abbrev pub run_of_numbers : ℕ → List ℕ → Option (Call × List ℕ)
 run_of_numbers count bytes = cond (nat_lt (length bytes) (2 * count)) None (Some (run (numbers_of count (take (2 * count) bytes)), drop (2 * count) bytes))
 
--- the call of a letter, and what is behind it
-abbrev pub docket_call_of_letter : ℕ → List ℕ → Option (Call × List ℕ)
-docket_call_of_letter letter bytes =
-    cond (letter == 0) (with_number bytes (λ operation rest. Some (place operation, rest)))
-    (cond (letter == 1) (with_number bytes run_of_numbers)
-    (cond (letter == 2) (Some (lift, bytes))
-    (cond (letter == 3)
+-- the call of a tag, and what is behind it
+abbrev pub docket_call_of_tag : ℕ → List ℕ → Option (Call × List ℕ)
+docket_call_of_tag tag bytes =
+    cond (tag == 0) (with_number bytes (λ operation rest. Some (place operation, rest)))
+    (cond (tag == 1) (with_number bytes run_of_numbers)
+    (cond (tag == 2) (Some (lift, bytes))
+    (cond (tag == 3)
     (with_number bytes (λ ranks rest. with_number rest (λ instants rest2. with_number rest2 (λ latenesses rest3. Some (certify (blank_buffers ranks instants latenesses), rest3))))) None)))
 
 abbrev pub front_docket_call : List ℕ → Option (Call × List ℕ)
 front_docket_call [] = None
-front_docket_call (letter ∷ bytes) = docket_call_of_letter letter bytes
+front_docket_call (tag ∷ bytes) = docket_call_of_tag tag bytes
 
 abbrev pub docket_calls : List ℕ → List Call
 docket_calls bytes = all_calls front_docket_call bytes

@@ -14,18 +14,18 @@ use Rattle.frame.specs.Orders.{numbers_of}
 use Rattle.trace.specs.declared.fault.ReadFault.{ReadFault}
 use Rattle.trace.specs.Contents.{contents, encode}
 use Rattle.trace.specs.Reading.{reading}
-use Rattle.trace.specs.Answers.{Said, answered, held}
+use Rattle.trace.specs.Answers.{Said, read_answer, sheet_after}
 use Rattle.trace.specs.Faults.{read_refusal}
-use Rattle.trace.specs.Writing.{writing}
+use Rattle.trace.specs.Writing.{write_answer, memory_after}
 use Rattle.holder.specs.Meanings.{Meaning, meaning}
 use Rattle.turns.specs.declared.calls.HolderCall.{HolderCall}
-use Rattle.turns.specs.Calls.{answer_for, after}
+use Rattle.turns.specs.Calls.{call_answer, after}
 use Rattle.order.specs.declared.operation.Paired.{Paired}
 use Rattle.order.specs.Steps.{SeatRule, giving_after}
 use Rattle.calls.specs.Calls.{Call, Answer, answers_for, placed_by}
 use Rattle.docket.specs.Pairs.{paired_all}
 use Rattle.examination.specs.Kinds.{seat_of}
-use Rattle.examination.specs.Traces.{type_of}
+use Rattle.examination.specs.Traces.{by_type}
 use Rattle.comparison.specs.Calls.{holder_calls, docket_calls}
 use Rattle.comparison.specs.Hashes.{hash_of}
 use Rattle.report.specs.Reports.{report_on}
@@ -39,10 +39,6 @@ number_in at width body = number_from_digits 256 (take width (drop at body))
 abbrev pub of_parts : ℕ → ℕ → List ℕ → (List ℕ → List ℕ → List ℕ) → Option (List ℕ)
 of_parts head count body say = cond (nat_lt (length body) (head + count)) None (Some (say (take count (drop head body)) (drop count (drop head body))))
 
--- what is said of a trace whose item type is 1, for stamps, or any other, for tickets
-abbrev pub by_type : List ℕ → List ℕ → List ℕ → List ℕ
-by_type trace stamps tickets = cond (type_of trace == 1) stamps tickets
-
 -- what is said where a trace is accepted, or its refusal behind the word of the case
 abbrev pub unless_unread : List ℕ → List ℕ → Result Said ReadFault → List ℕ
 unless_unread word said (Ok a) = said
@@ -51,24 +47,18 @@ unless_unread word said (Err e) = word ++ (codes " unread " ++ refusal_line (rea
 module _ {I : Type 0} (t : Ghosts I) where
   -- what is said of a trace that is read with room for 1,024 operations, by its operations
   abbrev pub of_trace : List ℕ → (List (Operation I) → List ℕ) → List ℕ → List ℕ
-  of_trace word say trace = unless_unread word (say (held [] (reading t 1024 trace))) (answered (reading t 1024 trace))
+  of_trace word say trace = unless_unread word (say (sheet_after [] (reading t 1024 trace))) (read_answer (reading t 1024 trace))
 
   -- two traces, read one after another onto one sheet with so much room
   abbrev pub words_of_readings : ℕ → List ℕ → List ℕ → List ℕ
   words_of_readings room one other =
       let first = reading t room one in
       let second = reading t room other in
-      codes "read " ++ (words_of_reading t (answered first) (held [] first) ++ (codes "; " ++ words_of_reading t (answered second) (held (held [] first) second)))
+      codes "read " ++ (words_of_reading t (read_answer first) (sheet_after [] first) ++ (codes "; " ++ words_of_reading t (read_answer second) (sheet_after (sheet_after [] first) second)))
 
-  -- memory, first all a5, after operations are written into it with a kind, a k and an order
-  abbrev pub memory_after : ℕ → ℕ → List ℕ → ℕ → List (Operation I) → List ℕ
-  memory_after kind k order size os =
-      let before : List ℕ = replicate size 165 in
-      cond (is_ok (writing kind (length os) (length order) size)) (encode t (contents kind k os order) ++ drop (8 + 26 * length os) before) before
-
-  -- operations that are written so
+  -- operations that are written with a kind, a k and an order into so many bytes, first all a5
   abbrev pub words_of_writing : ℕ → ℕ → List ℕ → ℕ → List (Operation I) → List ℕ
-  words_of_writing kind k order size os = words_of_written (writing kind (length os) (length order) size) (hash_of (memory_after kind k order size os))
+  words_of_writing kind k order size os = words_of_written (write_answer kind (length os) (length order) size) (hash_of (memory_after t kind k os order (replicate size 165)))
 
 -- the same, by the item type of the first trace
 abbrev pub words_of_two_readings : ℕ → List ℕ → List ℕ → List ℕ
@@ -109,7 +99,7 @@ item_case body = cond (nat_lt (length body) 9) None (option_map words_of_item (i
 -- what a holder that stands for a meaning answers to calls, each answer behind a space
 abbrev pub words_of_calls : SeatRule → Meaning → List HolderCall → List ℕ
 words_of_calls seat m [] = []
-words_of_calls seat m (call ∷ calls) = codes " " ++ (words_of_holder (answer_for m call) ++ words_of_calls seat (after seat m call) calls)
+words_of_calls seat m (call ∷ calls) = codes " " ++ (words_of_holder (call_answer m call) ++ words_of_calls seat (after seat m call) calls)
 
 -- a case of calls on a new holder of a kind
 abbrev pub holder_case : List ℕ → Option (List ℕ)

@@ -1,4 +1,4 @@
-pub mod Behind
+pub mod Shorter
 pub mod Hashes
 pub mod Words
 pub mod Calls

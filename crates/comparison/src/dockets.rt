@@ -9,7 +9,7 @@ ghost use Rattle.docket.specs.Lent.{owned};
 ghost use Rattle.docket.specs.Pairs.{paired_all, sheet_ops};
 ghost use Rattle.docket.specs.Slots.{call_of, reply_of};
 ghost use Rattle.examination.specs.Kinds.{seat_of};
-ghost use Rattle.comparison.specs.Behind.{IsShorterBehind};
+ghost use Rattle.comparison.specs.Shorter.{IsShorterBehind};
 ghost use Rattle.comparison.specs.Hashes.{hash_of, bytes_of_shorts, bytes_of_buffers};
 ghost use Rattle.comparison.specs.Calls.{blank_buffers, front_docket_call, docket_calls, AsksFront, TakesFirst};
 ghost use Rattle.comparison.specs.Cases.{of_trace, words_of_answers, words_of_session, words_of_docket, docket_case};
@@ -21,7 +21,7 @@ use crate::traces::on_sheet;
 use crate::words::{certify_words, number_words, run_words};
 use calls::fault::{DocketFault, RefusalCode};
 use counting::queue::CountingQueue;
-use docket::attend::attend;
+use docket::answer_calls::answer_calls;
 use docket::buffers::OwnBuffers;
 use docket::slot::Slot;
 use examination::examining::has_stamps;
@@ -72,9 +72,9 @@ fn next_slot(heap: Global, bytes: &[u8]) -> Option<(Result<Slot, AllocError>, &[
     ensures asks { AsksFront bytes.now result }
     ensures shorter { IsShorterBehind bytes.now result }
 {
-    let (letter, behind) = bytes.split_first()?;
+    let (tag, behind) = bytes.split_first()?;
     let answer = Err(DocketFault::NothingToLift);
-    match letter {
+    match tag {
         0 => {
             let (operation, behind) = next_number(behind)?;
             Some((Ok(Slot::Place { operation, answer }), behind))
@@ -187,7 +187,7 @@ fn held_words<H: Holder>(heap: Global, holder: &H) -> Result<String, AllocError>
 }
 
 // The answers to the calls on a docket of the sheet, and what its holder still holds.
-fn attended<I: Item, H: Holder + Drop>(
+fn docket_words<I: Item, H: Holder + Drop>(
     heap: Global,
     sheet: &Sheet<I>,
     holder: H,
@@ -197,7 +197,7 @@ fn attended<I: Item, H: Holder + Drop>(
     ensures { IfOk result (λ s. string_bytes s ≡ words_of_session H.Holder.seat (sheet_ops I.Item.number sheet.now) k (docket_calls calls.now)) }
 {
     let mut slots = all_slots(heap, calls)?;
-    let docket = attend(sheet, holder, k, slots.as_mut_slice());
+    let docket = answer_calls(sheet, holder, k, slots.as_mut_slice());
     let mut text = slots_words(heap, slots.as_slice())?;
     let held = held_words(heap, &docket.close())?;
     text.push_str(held.as_str())?;
@@ -205,7 +205,7 @@ fn attended<I: Item, H: Holder + Drop>(
 }
 
 // The same on a new holder of a kind.
-fn attended_by_kind<I: Item>(
+fn docket_words_by_kind<I: Item>(
     heap: Global,
     sheet: &Sheet<I>,
     kind: Kind,
@@ -216,10 +216,10 @@ fn attended_by_kind<I: Item>(
 {
     // Kept (no plainer): the kind is known at run time only, and a match is what picks a holder's type then.
     match kind {
-        Kind::Queue => attended::<I, Queue>(heap, sheet, Queue::new(), k, calls),
-        Kind::Stack => attended::<I, Stack>(heap, sheet, Stack::new(), k, calls),
+        Kind::Queue => docket_words::<I, Queue>(heap, sheet, Queue::new(), k, calls),
+        Kind::Stack => docket_words::<I, Stack>(heap, sheet, Stack::new(), k, calls),
         Kind::CountingQueue => {
-            attended::<I, CountingQueue>(heap, sheet, CountingQueue::new(), k, calls)
+            docket_words::<I, CountingQueue>(heap, sheet, CountingQueue::new(), k, calls)
         }
     }
 }
@@ -235,7 +235,7 @@ fn on_trace<I: Item>(
     ensures { IfOk result (λ s. string_bytes s ≡ of_trace I.Item (codes "docket") (λ os. words_of_session (seat_of (kind_number kind)) (paired_all I.Item.number os) k (docket_calls calls.now)) trace.now) }
 {
     on_sheet(heap, "docket", trace, |sheet: &Sheet<I>| {
-        attended_by_kind(heap, sheet, kind, k, calls)
+        docket_words_by_kind(heap, sheet, kind, k, calls)
     })
 }
 

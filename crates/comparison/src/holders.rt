@@ -5,7 +5,7 @@ ghost use Rattle.std.specs.Option.{option_map};
 ghost use Rattle.frame.specs.Kinds.{kind_number};
 ghost use Rattle.holder.specs.Meanings.{meaning};
 ghost use Rattle.examination.specs.Kinds.{seat_of};
-ghost use Rattle.comparison.specs.Behind.{IsShorterBehind};
+ghost use Rattle.comparison.specs.Shorter.{IsShorterBehind};
 ghost use Rattle.comparison.specs.Calls.{front_holder_call, holder_calls};
 ghost use Rattle.comparison.specs.Cases.{words_of_calls, holder_case};
 
@@ -25,8 +25,8 @@ fn next_call(bytes: &[u8]) -> Option<(HolderCall, &[u8])>
     ensures call { option_map (λ p. (p.0, p.1.now)) result ≡ front_holder_call bytes.now }
     ensures shorter { IsShorterBehind bytes.now result }
 {
-    let (letter, behind) = bytes.split_first()?;
-    match letter {
+    let (tag, behind) = bytes.split_first()?;
+    match tag {
         0 => Some((HolderCall::Clear, behind)),
         1 => Some((HolderCall::Count, behind)),
         2 => {

@@ -2,7 +2,7 @@
 ghost use Rattle.std.specs.Prelude.{◌≡◌, ◌+◌, ◌<◌, ◌≤◌, ◌↔◌, length, take, drop, IsSome, MatchOption};
 ghost use Rattle.std.specs.Int.{from_be_bytes, w16};
 ghost use Rattle.std.specs.List.{IsSplitAt};
-ghost use Rattle.comparison.specs.Behind.{IsShorterBehind};
+ghost use Rattle.comparison.specs.Shorter.{IsShorterBehind};
 
 // The number at the front of the bytes, and the bytes behind it; none where no two bytes stand there.
 pub(crate) fn next_number(bytes: &[u8]) -> Option<(u16, &[u8])>

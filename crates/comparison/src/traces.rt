@@ -4,7 +4,7 @@ ghost use Rattle.std.specs.Fn.{FnOnceReturnsAt};
 ghost use Rattle.std.specs.Option.{option_map};
 ghost use Rattle.sheet.specs.declared.operation.Operation.{Operation};
 ghost use Rattle.sheet.specs.Sheets.{entered, room, SameLoan};
-ghost use Rattle.trace.specs.Answers.{answered, held, shown};
+ghost use Rattle.trace.specs.Answers.{read_answer, sheet_after, shown};
 ghost use Rattle.trace.specs.Reading.{reading};
 ghost use Rattle.report.specs.declared.report.ReportFault.TheVariants.{NoMemory};
 ghost use Rattle.report.specs.Reports.{report_on};
@@ -79,8 +79,8 @@ fn reading_words<I: Item>(
     bytes: &[u8],
     sheet: &mut Sheet<I>,
 ) -> Result<String, AllocError>
-    ensures words { IfOk result (λ s. string_bytes s ≡ words_of_reading I.Item (answered (reading I.Item (room sheet.old) bytes.now)) (held (entered sheet.old) (reading I.Item (room sheet.old) bytes.now))) }
-    ensures entered { entered sheet.new ≡ held (entered sheet.old) (reading I.Item (room sheet.old) bytes.now) }
+    ensures words { IfOk result (λ s. string_bytes s ≡ words_of_reading I.Item (read_answer (reading I.Item (room sheet.old) bytes.now)) (sheet_after (entered sheet.old) (reading I.Item (room sheet.old) bytes.now))) }
+    ensures entered { entered sheet.new ≡ sheet_after (entered sheet.old) (reading I.Item (room sheet.old) bytes.now) }
     ensures loan { SameLoan sheet.old sheet.new }
 {
     let answer = said_words(heap, read(bytes, sheet))?;

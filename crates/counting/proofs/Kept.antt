@@ -3,7 +3,7 @@ use Rattle.std.proofs.Common.{◌≡◌, ℕ, zero, suc, ◌+◌, ◌<◌, ◌�
 use Rattle.std.proofs.lemmas.List.{get_or-set_same, get_or-set_other}
 use Rattle.std.proofs.lemmas.Bool.{cases_eq}
 use Rattle.counting.specs.declared.slot.Slot.{Slot}
-use Rattle.counting.specs.Slots.{number_of, slot_of, FreeFrom, Placed, Back}
+use Rattle.counting.specs.Slots.{number_of, slot_of, FreeFrom, HasPosition, Back}
 
 -- what a list has at place k after x was written at place i
 abbrev Written : {A : Type 0} → List (Option A) → ℕ → Option A → ℕ → Type 0
@@ -16,11 +16,11 @@ written {A} xs i x k h =
     (λ (ne : k ≢ i). inr (ne, get_or-set_other xs i k x None ne))
     (cases_eq k i)
 
-module _ (s : List (Option ℕ)) (ps : List (Option Slot)) (slot : Slot) (c : ℕ) (in' : slot.number < length s) (cin : c < length ps) (cs : c < 1024) (l : FreeFrom slot.number s) (t : Placed s ps) (b : Back s ps) (z : get_or ps c None ≡ None) where
+module _ (s : List (Option ℕ)) (ps : List (Option Slot)) (slot : Slot) (c : ℕ) (in' : slot.number < length s) (cin : c < length ps) (cs : c < 1024) (l : FreeFrom slot.number s) (t : HasPosition s ps) (b : Back s ps) (z : get_or ps c None ≡ None) where
   free_add : FreeFrom (slot.number + 1) (set s slot.number (Some c))
   free_add k h = let ne : k ≢ slot.number = omega arith in rw get_or-set_other (l k (omega arith))
 
-  placed_add : Placed (set s slot.number (Some c)) (set ps c (Some slot))
+  placed_add : HasPosition (set s slot.number (Some c)) (set ps c (Some slot))
   placed_add k d u =
       ⊎_elim
       (λ (e : (k ≡ slot.number) × (get_or (set s slot.number (Some c)) k None ≡ Some c)).
@@ -47,10 +47,10 @@ module _ (s : List (Option ℕ)) (ps : List (Option Slot)) (slot : Slot) (c : �
       get_or-set_other s slot.number k (Some c) None ne ∙ f)
       (written ps c (Some slot) d cin)
 
-  pub kept_add : (new : List (Option ℕ)) → new ≡ set s slot.number (Some c) → FreeFrom (slot.number + 1) new × Placed new (set ps c (Some slot)) × Back new (set ps c (Some slot))
-  kept_add new e = subst (λ l. FreeFrom (slot.number + 1) l × Placed l (set ps c (Some slot)) × Back l (set ps c (Some slot))) (sym e) (free_add, placed_add, back_add)
+  pub kept_add : (new : List (Option ℕ)) → new ≡ set s slot.number (Some c) → FreeFrom (slot.number + 1) new × HasPosition new (set ps c (Some slot)) × Back new (set ps c (Some slot))
+  kept_add new e = subst (λ l. FreeFrom (slot.number + 1) l × HasPosition l (set ps c (Some slot)) × Back l (set ps c (Some slot))) (sym e) (free_add, placed_add, back_add)
 
-module _ (s : List (Option ℕ)) (ps : List (Option Slot)) (n : ℕ) (slot : Slot) (c : ℕ) (in' : slot.number < length s) (cin : c < length ps) (l : FreeFrom n s) (t : Placed s ps) (b : Back s ps) (p : get_or ps c None ≡ Some slot) (q : get_or s slot.number None ≡ Some c) where
+module _ (s : List (Option ℕ)) (ps : List (Option Slot)) (n : ℕ) (slot : Slot) (c : ℕ) (in' : slot.number < length s) (cin : c < length ps) (l : FreeFrom n s) (t : HasPosition s ps) (b : Back s ps) (p : get_or ps c None ≡ Some slot) (q : get_or s slot.number None ≡ Some c) where
   free_take : FreeFrom n (set s slot.number None)
   free_take k h =
       ⊎_elim
@@ -58,7 +58,7 @@ module _ (s : List (Option ℕ)) (ps : List (Option Slot)) (n : ℕ) (slot : Slo
       (λ (e : (k ≢ slot.number) × (get_or (set s slot.number None) k None ≡ get_or s k None)). e.1 ∙ l k h)
       (written s slot.number None k in')
 
-  placed_take : Placed (set s slot.number None) (set ps c None)
+  placed_take : HasPosition (set s slot.number None) (set ps c None)
   placed_take k d u =
       ⊎_elim
       (λ (e : (k ≡ slot.number) × (get_or (set s slot.number None) k None ≡ None)). absurd cc)
@@ -79,8 +79,8 @@ module _ (s : List (Option ℕ)) (ps : List (Option Slot)) (n : ℕ) (slot : Slo
       get_or-set_other s slot.number k None None ne ∙ f)
       (written ps c None d cin)
 
-  pub kept_take : (new : List (Option ℕ)) → new ≡ set s slot.number None → FreeFrom n new × Placed new (set ps c None) × Back new (set ps c None)
-  kept_take new e = subst (λ l. FreeFrom n l × Placed l (set ps c None) × Back l (set ps c None)) (sym e) (free_take, placed_take, back_take)
+  pub kept_take : (new : List (Option ℕ)) → new ≡ set s slot.number None → FreeFrom n new × HasPosition new (set ps c None) × Back new (set ps c None)
+  kept_take new e = subst (λ l. FreeFrom n l × HasPosition l (set ps c None) × Back l (set ps c None)) (sym e) (free_take, placed_take, back_take)
 
 -- ---- nothing held
 blank : {A : Type 0} (n k : ℕ) → get_or {A = Option A} (replicate n None) k None ≡ None
@@ -91,7 +91,7 @@ blank (suc n) (suc k) = blank n k
 pub free_clear : (s : List (Option ℕ)) → s ≡ replicate 1024 None → (k : ℕ) → get_or s k None ≡ None
 free_clear s e k = ap (λ (l : List (Option ℕ)). get_or l k None) e ∙ blank 1024 k
 
-pub placed_clear : (s : List (Option ℕ)) (ps : List (Option Slot)) → s ≡ replicate 1024 None → Placed s ps
+pub placed_clear : (s : List (Option ℕ)) (ps : List (Option Slot)) → s ≡ replicate 1024 None → HasPosition s ps
 placed_clear s ps e k c u = let z = free_clear s e k in absurd cc
 
 pub back_clear : (s : List (Option ℕ)) → Back s (replicate 1024 None)

@@ -2,9 +2,13 @@
 use Rattle.std.specs.Prelude.{◌≡◌, ℕ, ◌+◌, ◌-◌, ◌^◌, ◌<◌, ◌≤◌, Bool, cond, Option, is_some, List, take, count_by, nat_le, slice_index}
 use Rattle.std.specs.Int.Count.{count_trailing_zeros}
 
--- how long the block is that ends at position p: the lowest one bit of p. It has the positions p - block p + 1 to p
+-- the lowest one bit of n's k lowest bits, or 2 ^ k
+abbrev pub lowest_bit : ℕ → ℕ → ℕ
+lowest_bit k n = 2 ^ count_trailing_zeros k n
+
+-- how long the block is that ends at position p: it has the positions p - block p + 1 to p
 unfoldable pub block : ℕ → ℕ
-block p = 2 ^ count_trailing_zeros 16 p
+block p = lowest_bit 16 p
 
 -- position p is slot p - 1, and a slot is used if it has a code
 abbrev pub used : Option ℕ → Bool

@@ -14,7 +14,7 @@ use Rattle.giving.proofs.Counts.{times_none, once_more}
 use Rattle.giving.proofs.Places.{place_only, removed_without}
 use Rattle.counting.specs.declared.slot.Slot.{Slot}
 use Rattle.counting.specs.Blocks.{used, worth, upto}
-use Rattle.counting.specs.Slots.{codes, slot_of, FreeFrom, Placed}
+use Rattle.counting.specs.Slots.{codes, slot_of, FreeFrom, HasPosition}
 use Rattle.counting.specs.Sums.{upto_le}
 
 pub codes_append : (xs ys : List (Option ℕ)) → codes (xs ++ ys) ≡ codes xs ++ codes ys
@@ -95,14 +95,14 @@ once_single (Some c ∷ xs) o a =
     let z = times_nowhere xs c (λ h. o 0 (suc h.0) c (omega arith) refl h.1) in
     omega (arith, once_more a c (codes xs) z r)
 
-pub codes_once : (s : List (Option ℕ)) (ps : List (Option Slot)) → Placed s ps → Once (codes s)
+pub codes_once : (s : List (Option ℕ)) (ps : List (Option Slot)) → HasPosition s ps → Once (codes s)
 codes_once s ps t = once_single s (λ i j c ij u v. let a = t i c u in let b = t j c v in let e : Some i ≡ Some j = sym a.1 ∙ b.1 in let n : i ≡ j = cc in omega arith)
 
-pub codes_below : (s : List (Option ℕ)) (ps : List (Option Slot)) → Placed s ps → Below 1024 (codes s)
+pub codes_below : (s : List (Option ℕ)) (ps : List (Option Slot)) → HasPosition s ps → Below 1024 (codes s)
 codes_below s ps t a l = times_nowhere s a (λ h. let b = t h.0 a h.1 in omega arith)
 
 -- a code without a position is not held
-pub codes_absent : (s : List (Option ℕ)) (ps : List (Option Slot)) (c : ℕ) → Placed s ps → slot_of ps c ≡ None → times c (codes s) ≡ 0
+pub codes_absent : (s : List (Option ℕ)) (ps : List (Option Slot)) (c : ℕ) → HasPosition s ps → slot_of ps c ≡ None → times c (codes s) ≡ 0
 codes_absent s ps c t z = times_nowhere s c (λ h. let e = (t h.0 c h.1).1 in cc)
 
 pub within : {A : Type 0} (s : List (Option A)) (i : ℕ) (c : A) → slice_index_or s i None ≡ Some c → i < length s
@@ -123,10 +123,10 @@ coded s i (Some c) e u = let a = code_at s i c e in (a.0, e ∙ ap Some (sym a.1
 pub code_in : (s : List (Option ℕ)) (i : ℕ) → IsSome (slice_index_or s i None) → (upto s i < length (codes s)) × (slice_index_or s i None ≡ Some (slice_index (codes s) (upto s i)))
 code_in s i u = coded s i (slice_index_or s i None) refl u
 
-pub code_place : (s : List (Option ℕ)) (ps : List (Option Slot)) (c i : ℕ) → Placed s ps → slice_index_or s i None ≡ Some c → place c (codes s) ≡ upto s i
+pub code_place : (s : List (Option ℕ)) (ps : List (Option Slot)) (c i : ℕ) → HasPosition s ps → slice_index_or s i None ≡ Some c → place c (codes s) ≡ upto s i
 code_place s ps c i t e = let a = code_at s i c e in place_only c (upto s i) (codes s) (codes_once s ps t) a.0 a.1
 
-pub codes_without : (s : List (Option ℕ)) (ps : List (Option Slot)) (c i : ℕ) → Placed s ps → slice_index_or s i None ≡ Some c → codes (slice_set s i None) ≡ without c (codes s)
+pub codes_without : (s : List (Option ℕ)) (ps : List (Option Slot)) (c i : ℕ) → HasPosition s ps → slice_index_or s i None ≡ Some c → codes (slice_set s i None) ≡ without c (codes s)
 codes_without s ps c i t e =
     let h = within s i c e in
     let A : List ℕ = codes (take i s) in

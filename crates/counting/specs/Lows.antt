@@ -4,27 +4,23 @@ use Rattle.std.proofs.Common.{ap, inl, inr, ⊎_elim, arith, pow_pos}
 use Rattle.std.proofs.Math.Nat.{pow-succ'}
 use Rattle.std.specs.Int.Count.{count_trailing_zeros}
 use Rattle.std.proofs.lemmas.Bool.{cases_lt}
-use Rattle.counting.specs.Blocks.{block}
+use Rattle.counting.specs.Blocks.{block, lowest_bit}
 
--- the lowest one bit of n's k lowest bits, or 2 ^ k
-abbrev bit : ℕ → ℕ → ℕ
-bit k n = 2 ^ count_trailing_zeros k n
-
-bit_odd : (k n : ℕ) → n % 2 ≡ 1 → bit (suc k) n ≡ 1
+bit_odd : (k n : ℕ) → n % 2 ≡ 1 → lowest_bit (suc k) n ≡ 1
 unfolding count_trailing_zeros
 bit_odd k n e = rw e
 
-bit_even : (k n : ℕ) → n % 2 ≡ 0 → bit (suc k) n ≡ 2 * bit k (n / 2)
+bit_even : (k n : ℕ) → n % 2 ≡ 0 → lowest_bit (suc k) n ≡ 2 * lowest_bit k (n / 2)
 unfolding count_trailing_zeros
 bit_even k n e = rw e (pow-succ' 2 (count_trailing_zeros k (n / 2)))
 
 parity : (n : ℕ) → (n % 2 ≡ 0) ⊎ (n % 2 ≡ 1)
 parity n = ⊎_elim (λ (h : n % 2 < 1). inl (omega arith)) (λ (h : 1 ≤ n % 2). inr (omega arith)) (cases_lt (n % 2) 1)
 
-some_bit : (k n : ℕ) → 0 < bit k n
+some_bit : (k n : ℕ) → 0 < lowest_bit k n
 some_bit k n = pow_pos (count_trailing_zeros k n)
 
-bit_le : (k n : ℕ) → 0 < n → n < 2 ^ k → bit k n ≤ n
+bit_le : (k n : ℕ) → 0 < n → n < 2 ^ k → lowest_bit k n ≤ n
 bit_le zero n s h = absurd (omega arith)
 bit_le (suc k) n s h =
     let p = pow-succ' 2 k in
@@ -34,27 +30,27 @@ bit_le (suc k) n s h =
     (parity n)
 
 -- the next block is at least twice as long
-bit_next : (k n : ℕ) → 0 < n → n < 2 ^ k → 2 * bit k n ≤ bit k (n + bit k n)
+bit_next : (k n : ℕ) → 0 < n → n < 2 ^ k → 2 * lowest_bit k n ≤ lowest_bit k (n + lowest_bit k n)
 bit_next zero n s h = absurd (omega arith)
 bit_next (suc k) n s h =
     let p = pow-succ' 2 k in
     ⊎_elim
     (λ (e : n % 2 ≡ 0).
     let b = bit_even k n e in
-    let g = bit_even k (n + bit (suc k) n) (omega arith) in
-    let half : (n + bit (suc k) n) / 2 ≡ n / 2 + bit k (n / 2) = omega arith in
+    let g = bit_even k (n + lowest_bit (suc k) n) (omega arith) in
+    let half : (n + lowest_bit (suc k) n) / 2 ≡ n / 2 + lowest_bit k (n / 2) = omega arith in
     let r = bit_next k (n / 2) (omega arith) (omega arith) in
-    let q = ap (bit k) half in
+    let q = ap (lowest_bit k) half in
     omega arith)
     (λ (e : n % 2 ≡ 1).
     let b = bit_odd k n e in
-    let g = bit_even k (n + bit (suc k) n) (omega arith) in
-    let r = some_bit k ((n + bit (suc k) n) / 2) in
+    let g = bit_even k (n + lowest_bit (suc k) n) (omega arith) in
+    let r = some_bit k ((n + lowest_bit (suc k) n) / 2) in
     omega arith)
     (parity n)
 
 -- past n and inside its bit, the lowest one bit is that of what is past n
-bit_past : (k n j : ℕ) → 0 < j → j < bit k n → bit k (n + j) ≡ bit k j
+bit_past : (k n j : ℕ) → 0 < j → j < lowest_bit k n → lowest_bit k (n + j) ≡ lowest_bit k j
 unfolding count_trailing_zeros
 bit_past zero n j s h = absurd (omega arith)
 bit_past (suc k) n j s h =
@@ -67,7 +63,7 @@ bit_past (suc k) n j s h =
     let i = bit_even k j f in
     let half : (n + j) / 2 ≡ n / 2 + j / 2 = omega arith in
     let r = bit_past k (n / 2) (j / 2) (omega arith) (omega arith) in
-    let q = ap (bit k) half in
+    let q = ap (lowest_bit k) half in
     omega arith)
     (λ (f : j % 2 ≡ 1). let g = bit_odd k (n + j) (omega arith) in let i = bit_odd k j f in omega arith)
     (parity j))
@@ -75,7 +71,7 @@ bit_past (suc k) n j s h =
     (parity n)
 
 -- one more bit to look at changes nothing
-bit_more : (k n : ℕ) → 0 < n → n < 2 ^ k → bit (suc k) n ≡ bit k n
+bit_more : (k n : ℕ) → 0 < n → n < 2 ^ k → lowest_bit (suc k) n ≡ lowest_bit k n
 bit_more zero n s h = absurd (omega arith)
 bit_more (suc k) n s h =
     let p = pow-succ' 2 k in

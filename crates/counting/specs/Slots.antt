@@ -21,8 +21,8 @@ abbrev pub slot_of : List (Option Slot) → ℕ → Option ℕ
 slot_of positions c = number_of (slice_index_or positions c None)
 
 -- the code of each used slot is below 1,024 and has that slot's position
-abbrev pub Placed : List (Option ℕ) → List (Option Slot) → Type 0
-Placed slots positions = (k c : ℕ) → slice_index_or slots k None ≡ Some c → (c < 1024) × (slot_of positions c ≡ Some k)
+abbrev pub HasPosition : List (Option ℕ) → List (Option Slot) → Type 0
+HasPosition slots positions = (k c : ℕ) → slice_index_or slots k None ≡ Some c → (c < 1024) × (slot_of positions c ≡ Some k)
 
 -- each code that has a position stands in the slot of that position
 abbrev pub Back : List (Option ℕ) → List (Option Slot) → Type 0

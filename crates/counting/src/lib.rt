@@ -2,7 +2,7 @@
 // read from partial sums over blocks of positions.
 #![tactic(auto)]
 
-pub mod alike;
+pub mod answers_as_queue;
 mod arrivals;
 mod blocks;
 pub mod queue;

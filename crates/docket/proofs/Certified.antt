@@ -8,14 +8,15 @@ use Rattle.giving.specs.Lists.{times}
 use Rattle.order.specs.Steps.{SeatRule, rank_errors, lateness}
 use Rattle.calls.specs.declared.fault.DocketFault.{DocketFault}
 use Rattle.calls.specs.declared.fault.DocketFault.TheVariants.{StepsMissing, BufferTooShort}
-use Rattle.calls.specs.Rules.{missing, unless_missing, is_too_short, certify_answer, written, certificate_of, latenesses_of, over, numbers_from, Buffers, lowest, unplaced}
+use Rattle.giving.specs.Fronts.{over}
+use Rattle.calls.specs.Rules.{missing, unless_missing, is_too_short, certify_answer, written, certificate_of, latenesses_of, numbers_from, Buffers, lowest, unplaced, summed_up}
 use Rattle.docket.specs.declared.entry.Entry.{Entry}
 use Rattle.docket.specs.declared.ledger.Ledger.{Ledger}
 use Rattle.docket.specs.Kept.{blank}
-use Rattle.docket.specs.InStep.{ops_of, steps_of, InStep, three, lates_of, errors_of, summed_up}
+use Rattle.docket.specs.InAgreement.{ops_of, steps_of, InAgreement, three, lates_of, errors_of}
 use Rattle.docket.specs.Moves.{not_placed}
-use Rattle.docket.proofs.Books.{lowest_ext}
-use Rattle.docket.proofs.Ties.{long_steps, long_ops, not_not}
+use Rattle.docket.proofs.PlacedSteps.{lowest_ext}
+use Rattle.docket.proofs.Placing.{long_steps, long_ops, not_not}
 use Rattle.docket.proofs.Sums.{map_below}
 
 module _ (seat : SeatRule) (l : Ledger) where
@@ -25,7 +26,7 @@ module _ (seat : SeatRule) (l : Ledger) where
       (λ b h. ap not (l.flagged b (omega arith)) ∙ not_not (eqb (times b (steps_of l)) 0))
       ∙ ap (λ (n : ℕ). lowest (unplaced (steps_of l)) 0 n) (sym (long_ops l))
 
-  lates_same : (L : List ℕ) (n : ℕ) → InStep seat L n l → lates_of l ≡ latenesses_of seat (ops_of l) (steps_of l)
+  lates_same : (L : List ℕ) (n : ℕ) → InAgreement seat L n l → lates_of l ≡ latenesses_of seat (ops_of l) (steps_of l)
   lates_same L n i =
       let few = length-take-le l.count l.entries (omega arith) in
       map_below (λ a. lateness seat (ops_of l) a (steps_of l)) (λ e. e.late) 0 (take l.count l.entries)
@@ -51,11 +52,11 @@ module _ (seat : SeatRule) (l : Ledger) where
   cert_short b e s = sym (cond-true _ _ _ (short_is b true s) ∙ ap (λ (n : ℕ). Err (BufferTooShort n)) (long_ops l)) ∙ chosen_is b None e
 
   pub cert_ok : (b : Buffers) (c : Certificate) (L : List ℕ) (n : ℕ) → None ≡ lowest (not_placed l.entries) 0 l.count → false ≡ is_too_short l.count b
-      → c ≡ summed_up (errors_of l) → InStep seat L n l → Ok c ≡ certify_answer seat (ops_of l) (steps_of l) b
+      → c ≡ summed_up (errors_of l) → InAgreement seat L n l → Ok c ≡ certify_answer seat (ops_of l) (steps_of l) b
   cert_ok b c L n e s is i = ap Ok (is ∙ ap summed_up i.errors) ∙ sym (cond-false _ _ _ (short_is b false s)) ∙ chosen_is b None e
 
   pub cert_written : (r i t r' i' t' : List ℕ) (c : Certificate) (L : List ℕ) (n : ℕ)
-      → r' ≡ over (errors_of l) r → i' ≡ over (earliest (ops_of l) (steps_of l)) i → t' ≡ over (lates_of l) t → InStep seat L n l → three r' i' t' ≡ written seat (ops_of l) (steps_of l) (three r i t) (Ok c)
+      → r' ≡ over (errors_of l) r → i' ≡ over (earliest (ops_of l) (steps_of l)) i → t' ≡ over (lates_of l) t → InAgreement seat L n l → three r' i' t' ≡ written seat (ops_of l) (steps_of l) (three r i t) (Ok c)
   cert_written r i t r' i' t' c L n re ie te s =
       ap (λ (v : List ℕ). three v i' t') (re ∙ ap (λ (v : List ℕ). over v r) s.errors)
       ∙ ap (λ (v : List ℕ). three (over (rank_errors seat (ops_of l) (steps_of l)) r) v t') ie

@@ -6,8 +6,9 @@ use Rattle.std.specs.Fn.{Mut, Called}
 use Rattle.std.specs.Array.{IsFromFnResult}
 use Rattle.order.specs.declared.operation.Paired.{Paired}
 use Rattle.docket.specs.declared.entry.Entry.{Entry}
-use Rattle.docket.specs.Kept.{nothing, fresh, blank, entry_of}
-use Rattle.docket.specs.InStep.{paired_in}
+use Rattle.order.specs.Steps.{nothing}
+use Rattle.docket.specs.Kept.{fresh, blank, entry_of}
+use Rattle.docket.specs.InAgreement.{paired_in}
 use Rattle.docket.proofs.Made.{made}
 use Rattle.docket.proofs.Table.{op_at, length_ops}
 

@@ -1,6 +1,6 @@
 -- The holder after steps that the rules let pass. Assumes nothing.
-use Rattle.std.proofs.Common.{◌≡◌, ℕ, ◌+◌, ◌<◌, ◌≤◌, true, false, cond, eqb, leb, List, [], ◌∷◌, length, is_ok, refl, ap, ◌∙◌, arith}
-use Rattle.std.specs.List.{insert, AllByRecursion}
+use Rattle.std.proofs.Common.{◌≡◌, ℕ, ◌+◌, ◌<◌, ◌≤◌, true, false, eqb, leb, List, [], ◌∷◌, length, is_ok, refl, ap, ◌∙◌, arith}
+use Rattle.std.specs.List.{AllByRecursion}
 use Rattle.std.proofs.lemmas.Bool.{eq-eqb, lt-leb, le-ltb, cond-true}
 use Rattle.giving.specs.Lists.{times, without, stands}
 use Rattle.giving.proofs.Places.{place_absent}
@@ -27,9 +27,7 @@ pub stepped_after : (seat : SeatRule) (x : ℕ) (d : Deed) (L : List ℕ) (n : �
     → stepped seat x d (record { list = L; count = n }) ≡ record { list = after_step seat x d L; count = n + items_added d }
 stepped_after seat x Add L n h z l =
     let e = add_ok L n x h z l in
-    let a = cond-true (is_ok (add_answer L n x)) (insert L (seat L x) x) L e in
-    let b = cond-true {A = ℕ} (is_ok (add_answer L n x)) (n + 1) n e in
-    ap (λ (m : List ℕ). record { list = m; count = cond (is_ok (add_answer L n x)) (n + 1) n }) a ∙ ap (λ (m : ℕ). record { list = insert L (seat L x) x; count = m }) b
+    cond-true {A = Meaning} (is_ok (add_answer L n x)) _ _ e
 stepped_after seat x (Take a) L n h z l =
     let e : n ≡ n + 0 = omega arith in
     ap (λ (m : ℕ). record { list = without a L; count = m }) e

@@ -1,12 +1,11 @@
 pub mod Entered
-pub mod Books
+pub mod PlacedSteps
 pub mod Turns
 pub mod Fronts
-pub mod Pushes
 pub mod Table
 pub mod Holds
-pub mod Ties
-pub mod Lifts
+pub mod Placing
+pub mod Lifting
 pub mod Sums
 pub mod Certified
 pub mod Slotted

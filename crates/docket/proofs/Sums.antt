@@ -9,12 +9,13 @@ use Rattle.order.specs.Times.{earliest_from}
 use Rattle.giving.specs.Lists.{place}
 use Rattle.order.specs.declared.operation.Paired.{Paired}
 use Rattle.order.specs.Steps.{operation, sum}
-use Rattle.calls.specs.Rules.{over, largest_of, numbers_from}
+use Rattle.giving.specs.Fronts.{over}
+use Rattle.calls.specs.Rules.{largest_of, numbers_from, summed_up}
 use Rattle.docket.specs.declared.entry.Entry.{Entry}
 use Rattle.calls.specs.declared.certificate.Certificate.{Certificate}
 use Rattle.docket.specs.declared.step.Step.{Step}
 use Rattle.docket.specs.Kept.{entry_of, ranks_in}
-use Rattle.docket.specs.InStep.{summed_up}
+
 
 -- ---- a buffer with one more entry written
 pub over_push : (front buffer : List ℕ) (v : ℕ) → length front < length buffer → set (over front buffer) (length front) v ≡ over (front ++ v ∷ []) buffer

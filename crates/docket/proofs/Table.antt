@@ -8,7 +8,7 @@ use Rattle.order.specs.Steps.{operation}
 use Rattle.docket.specs.declared.entry.Entry.{Entry}
 use Rattle.docket.specs.declared.ledger.Ledger.{Ledger}
 use Rattle.docket.specs.Kept.{blank, entry_of, numbers_in, Flagged}
-use Rattle.docket.specs.InStep.{paired_in}
+use Rattle.docket.specs.InAgreement.{paired_in}
 use Rattle.docket.specs.Moves.{with_late, one_more, one_less, changed_at, changed_all}
 
 pub op_at : (es : List Entry) (n x : ℕ) → n ≤ length es → x < n → operation (take n (map paired_in es)) x ≡ paired_in (entry_of es x)

@@ -3,12 +3,13 @@ use Rattle.std.proofs.Common.{◌≡◌, ℕ, ◌+◌, ◌<◌, Bool, true, fals
 use Rattle.std.proofs.lemmas.List.{take_more}
 use Rattle.std.proofs.lemmas.Bool.{cases_Bool, lt-leb, leb-false, cond-false}
 use Rattle.calls.specs.declared.fault.DocketFault.TheVariants.{PlacedAlready}
+use Rattle.calls.specs.Rules.{unless_early}
 use Rattle.docket.specs.declared.entry.Entry.{Entry}
-use Rattle.docket.specs.Moves.{judged, judged_rank, judged_wait, changed_at, changed_all}
+use Rattle.docket.specs.Moves.{judged, judged_rank, changed_at, changed_all}
 
 -- ---- the rules
 module _ (m n x k : ℕ) (b : Bool) (w r : Option ℕ) where
-  pub judged_in : x < n → judged m n x k b w r ≡ cond b (Err (PlacedAlready m)) (judged_wait m w (judged_rank m k r))
+  pub judged_in : x < n → judged m n x k b w r ≡ cond b (Err (PlacedAlready m)) (unless_early m w (judged_rank m k r))
   unfolding judged
   judged_in h = cond-false _ _ _ (lt-leb n x h)
 

@@ -1,14 +1,10 @@
 -- What every ledger keeps. Assumes nothing.
 use Rattle.std.specs.Prelude.{◌≡◌, ℕ, ◌+◌, ◌-◌, ◌*◌, ◌^◌, ◌<◌, ◌≤◌, min, false, cond, not, List, map, length, take, slice_index, slice_index_or}
-use Rattle.order.specs.declared.operation.Deed.TheVariants.{Add}
 use Rattle.order.specs.declared.operation.Paired.{Paired}
+use Rattle.order.specs.Steps.{nothing}
 use Rattle.calls.specs.Rules.{unplaced}
 use Rattle.docket.specs.declared.entry.Entry.{Entry}
 use Rattle.docket.specs.declared.step.Step.{Step}
-
--- the operation that stands for none
-abbrev pub nothing : Paired
-nothing = record { deed = Add; thread = 0; start = 0; end = 0 }
 
 -- the entry of an operation before any step
 abbrev pub fresh : Paired → Entry

@@ -3,7 +3,7 @@ use Rattle.std.specs.Prelude.{◌≡◌, vec_items}
 use Rattle.calls.specs.Rules.{Buffers}
 use Rattle.docket.specs.declared.buffers.Buffers.{Buffers as Lent}
 use Rattle.docket.specs.declared.buffers.OwnBuffers.{OwnBuffers}
-use Rattle.docket.specs.InStep.{three}
+use Rattle.docket.specs.InAgreement.{three}
 
 -- what the lent ones hold
 abbrev pub held : Lent → Buffers

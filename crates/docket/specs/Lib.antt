@@ -1,7 +1,7 @@
 pub mod Pairs
 pub mod Kept
 pub mod Moves
-pub mod InStep
+pub mod InAgreement
 pub mod Lent
-pub mod Tied
+pub mod Agreed
 pub mod Slots

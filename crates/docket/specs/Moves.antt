@@ -1,24 +1,19 @@
 -- What the parts of a call do to the holder and the table, as they stand. Assumes nothing.
-use Rattle.std.specs.Prelude.{ℕ, ◌+◌, ◌-◌, ◌^◌, min, Bool, cond, not, ◌&&◌, List, [], ◌∷◌, is_ok, Some, None, Ok, Err, Option, Result, nat_le, nat_lt, slice_set}
-use Rattle.std.specs.List.{insert}
-use Rattle.giving.specs.Lists.{without}
-use Rattle.holder.specs.Answers.{add_answer}
-use Rattle.holder.specs.Meanings.{Meaning}
+use Rattle.std.specs.Prelude.{ℕ, ◌+◌, ◌-◌, ◌^◌, min, Bool, cond, not, ◌&&◌, List, [], ◌∷◌, Some, None, Ok, Err, Option, Result, nat_le, nat_lt, slice_set}
+use Rattle.holder.specs.Meanings.{Meaning, after_add, after_take}
 use Rattle.order.specs.declared.operation.Deed.{Deed}
 use Rattle.order.specs.declared.operation.Deed.TheVariants.{Add, Take, TakeOfNone, FoundEmpty}
 use Rattle.order.specs.Steps.{SeatRule, has_rank, rank_error}
 use Rattle.calls.specs.declared.fault.DocketFault.{DocketFault}
-use Rattle.calls.specs.declared.fault.DocketFault.TheVariants.{NoSuchOperation, PlacedAlready, TooEarly, NotHeld, AboveBound}
+use Rattle.calls.specs.declared.fault.DocketFault.TheVariants.{NoSuchOperation, PlacedAlready, NotHeld, AboveBound}
+use Rattle.calls.specs.Rules.{unless_early}
 use Rattle.docket.specs.declared.entry.Entry.{Entry}
 use Rattle.docket.specs.Kept.{entry_of}
 
 -- a holder that is told a step
 abbrev pub stepped : SeatRule → ℕ → Deed → Meaning → Meaning
-stepped seat x Add s = record {
-  list = cond (is_ok (add_answer s.list s.count x)) (insert s.list (seat s.list x) x) s.list;
-  count = cond (is_ok (add_answer s.list s.count x)) (s.count + 1) s.count;
-}
-stepped seat x (Take a) s = record { list = without a s.list; count = s.count }
+stepped seat x Add s = after_add seat s x
+stepped seat x (Take a) s = after_take s a
 stepped seat x TakeOfNone s = s
 stepped seat x FoundEmpty s = s
 
@@ -44,12 +39,8 @@ abbrev pub judged_rank : ℕ → ℕ → Option ℕ → Result ℕ DocketFault
 judged_rank m k None = Err (NotHeld m)
 judged_rank m k (Some r) = cond (nat_lt k r) (Err (AboveBound m r)) (Ok r)
 
-abbrev pub judged_wait : ℕ → Option ℕ → Result ℕ DocketFault → Result ℕ DocketFault
-judged_wait m (Some b) a = Err (TooEarly m b)
-judged_wait m None a = a
-
 unfoldable pub judged : ℕ → ℕ → ℕ → ℕ → Bool → Option ℕ → Option ℕ → Result ℕ DocketFault
-judged m n x k placed w r = cond (nat_le n x) (Err (NoSuchOperation m)) (cond placed (Err (PlacedAlready m)) (judged_wait m w (judged_rank m k r)))
+judged m n x k placed w r = cond (nat_le n x) (Err (NoSuchOperation m)) (cond placed (Err (PlacedAlready m)) (unless_early m w (judged_rank m k r)))
 
 -- a lateness one higher, or one lower; latenesses have 16 bits
 abbrev pub one_more : ℕ → ℕ

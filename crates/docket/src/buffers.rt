@@ -1,7 +1,7 @@
 // The memory that a certificate is written into.
 ghost use Rattle.std.specs.Prelude.{◌≡◌, replicate, IfOk};
 ghost use Rattle.calls.specs.Rules.{is_too_short};
-ghost use Rattle.docket.specs.InStep.{three};
+ghost use Rattle.docket.specs.InAgreement.{three};
 ghost use Rattle.docket.specs.Lent.{held, owned};
 
 use std::alloc::{AllocError, Global};

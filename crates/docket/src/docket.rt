@@ -1,5 +1,5 @@
 // The docket and its calls.
-ghost use Rattle.docket.specs.InStep.{InStep};
+ghost use Rattle.docket.specs.InAgreement.{InAgreement};
 
 use crate::ledger::Ledger;
 use holder::holder::Holder;
@@ -14,5 +14,5 @@ mod steps;
 pub struct Docket<H: Holder> {
     holder: H,
     ledger: Ledger,
-    ghost tied: { InStep H.seat (H.giving holder) (H.adds holder) ledger },
+    ghost agreed: { InAgreement H.seat (H.giving holder) (H.adds holder) ledger },
 }

@@ -8,9 +8,10 @@ use crate::ledger::awaited::Awaited;
 use crate::step::Step;
 
 pub mod awaited;
-pub mod books;
+pub mod certificate;
 pub mod copying;
-pub mod sums;
+pub mod steps;
+pub mod unplaced;
 
 // The table of the operations, the bound, the placed steps, and the ends of the operations that are not placed.
 // Kept (rule of the project): arrays of 1,024 with a count beside each, which is memory of a fixed size.

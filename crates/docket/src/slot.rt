@@ -4,7 +4,7 @@ use calls::certificate::Certificate;
 use calls::fault::{DocketFault, RefusalCode};
 
 // A call and what was answered to it; certify also writes its buffers.
-// Kept (no plainer): before the call the answer is a value to be written over: `attend` writes every one, and of an Option each reader would take it out.
+// Kept (no plainer): before the call the answer is a value to be written over: `answer_calls` writes every one, and of an Option each reader would take it out.
 #[derive(Drop)]
 pub enum Slot {
     Place {

@@ -1,4 +1,4 @@
-// Tests of dockets, through the function that attends to a list of calls.
+// Tests of dockets, through the function that answers a list of calls.
 #![tactic(auto)]
 
 #[cfg(test)]
@@ -96,7 +96,7 @@ mod tests {
     use crate::lists::{certificate_of, during, examination, granted, nothing, six, stop_of};
     use calls::certificate::Certificate;
     use calls::fault::RefusalCode;
-    use docket::attend::attend;
+    use docket::answer_calls::answer_calls;
     use docket::buffers::OwnBuffers;
     use docket::slot::Slot;
     use holder::holder::Holder;
@@ -133,7 +133,7 @@ mod tests {
                 .map_err(|_| Fail::new("an operation was not entered"))?;
         }
         let mut slots = examination(&[0, 1, 2, 3, 4, 5], rt)?;
-        let docket = attend(&sheet, holder, k, &mut slots);
+        let docket = answer_calls(&sheet, holder, k, &mut slots);
         drop(docket);
         Ok(slots)
     }
@@ -204,7 +204,7 @@ mod tests {
             .map_err(|_| Fail::new("the found-empty was not entered"))?;
         let order: Vec<u16> = (0..1024u16).collect(rt.alloc())?;
         let mut slots = examination(&order, rt)?;
-        let docket = attend(&sheet, Queue::new(), k, &mut slots);
+        let docket = answer_calls(&sheet, Queue::new(), k, &mut slots);
         drop(docket);
         Ok((stop_of(&slots), certificate_of(&slots)))
     }

@@ -8,7 +8,7 @@ use Rattle.calls.specs.Rules.{Run, run_of, Buffers, certify_answer, written}
 use Rattle.calls.proofs.Turns.{Outcome, outcome}
 use Rattle.holder.specs.declared.holder.Holder.{Ghosts}
 use Rattle.docket.specs.declared.docket.Docket.{Docket}
-use Rattle.docket.specs.Tied.{ops_in, steps_in, bound_in, running, certifying, writing}
+use Rattle.docket.specs.Agreed.{ops_in, steps_in, bound_in, running, certifying, writing}
 use Rattle.examination.specs.Orders.{unless_stopped, order_outcome, order_written}
 
 -- a run that nothing stopped placed the whole order

@@ -5,7 +5,7 @@ use Rattle.sheet.specs.declared.operation.Operation.{Operation}
 use Rattle.trace.specs.declared.fault.ReadFault.{ReadFault}
 use Rattle.trace.specs.declared.fault.ReadFault.TheVariants.{Frame, Entry}
 use Rattle.trace.specs.declared.read.Accepted.{Accepted}
-use Rattle.trace.specs.Answers.{Said, said, saying_of, answered, held}
+use Rattle.trace.specs.Answers.{Said, said, saying_of, read_answer, sheet_after}
 use Rattle.trace.specs.Faults.{read_refusal}
 use Rattle.trace.specs.Reading.{Outcome}
 use Rattle.trace.specs.Reading.Outcome.{unread, refused, accepted}
@@ -23,14 +23,14 @@ module _ {I : Type 0} (t : Ghosts I) (b : Buffers) where
     buffers = order_written (seat_of s.kind) (paired_all t.number os) s.k s.order b;
   }
 
-  pub accepted_examined : (o : Outcome I) (old os : List (Operation I)) (a : Accepted) → Ok (said a) ≡ answered o → os ≡ held old o → order_examined os (said a) ≡ examining t b o
+  pub accepted_examined : (o : Outcome I) (old os : List (Operation I)) (a : Accepted) → Ok (said a) ≡ read_answer o → os ≡ sheet_after old o → order_examined os (said a) ≡ examining t b o
   accepted_examined (unread f) old os a e h = absurd (cc)
   accepted_examined (refused fs i f) old os a e h = absurd (cc)
   accepted_examined (accepted c) old os a e h =
       let q : said a ≡ saying_of c = cc in
       ap (λ z. order_examined z (said a)) h ∙ ap (λ z. order_examined c.ops z) q
 
-  pub refused_examined : (o : Outcome I) (e : ReadFault) → Err e ≡ answered o → ((examining t b o).answer ≡ Err (read_refusal e)) × (b ≡ (examining t b o).buffers)
+  pub refused_examined : (o : Outcome I) (e : ReadFault) → Err e ≡ read_answer o → ((examining t b o).answer ≡ Err (read_refusal e)) × (b ≡ (examining t b o).buffers)
   refused_examined (unread f) e p = let q : Frame f ≡ e = cc in (ap (λ z. Err (read_refusal z)) q, refl)
   refused_examined (refused os i f) e p = let q : Entry (record { place = i; fault = f }) ≡ e = cc in (ap (λ z. Err (read_refusal z)) q, refl)
   refused_examined (accepted c) e p = absurd (cc)

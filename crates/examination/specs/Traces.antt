@@ -37,9 +37,13 @@ module _ {I : Type 0} (t : Ghosts I) (b : Buffers) where
 abbrev pub type_of : List ℕ → ℕ
 type_of bs = slice_index bs 1 / 16
 
--- type 1 goes to the reader of stamps, every other trace to that of tickets; there is room for 1,024 operations
+-- type 1 is that of stamps; every other trace goes to tickets
+abbrev pub by_type : {A : Type 0} → List ℕ → A → A → A
+by_type bs stamps tickets = cond (type_of bs == 1) stamps tickets
+
+-- there is room for 1,024 operations
 abbrev pub examination_of : List ℕ → Buffers → Examined
-examination_of bs b = cond (type_of bs == 1) (examining stamp_items b (reading stamp_items 1024 bs)) (examining ticket_items b (reading ticket_items 1024 bs))
+examination_of bs b = by_type bs (examining stamp_items b (reading stamp_items 1024 bs)) (examining ticket_items b (reading ticket_items 1024 bs))
 
 -- an answer, and the buffers that it leaves, are those of the examination, or memory was wanting and they are as before
 abbrev pub Comes : Examined → Buffers → Result Certificate ExamineFault → Buffers → Type 0

@@ -1,5 +1,6 @@
 -- What callers in other languages get: plain numbers, and text over the front of their memory.
-use Rattle.std.specs.Prelude.{◌≡◌, ℕ, ◌⊎◌, cond, List, ◌++◌, length, drop, Ok, Err, Result, nat_le}
+use Rattle.std.specs.Prelude.{◌≡◌, ℕ, ◌⊎◌, cond, List, length, Ok, Err, Result, nat_le}
+use Rattle.giving.specs.Fronts.{over}
 use Rattle.refusal.specs.declared.Layer.{Layer}
 use Rattle.refusal.specs.declared.Layer.TheVariants.{Frame, Record, Item, Sheet, Docket, Holder}
 use Rattle.calls.specs.declared.certificate.Certificate.{Certificate}
@@ -32,10 +33,10 @@ plain (Err (Refused f)) = record {
 plain (Err NoMemory) = record { status = 2; layer = 0; number = 0; place = 0; detail = 0; total = 0; largest = 0; first = 0 }
 
 -- memory with a text over its front, or as it was where the text does not fit
-abbrev pub laid : List ℕ → List ℕ → List ℕ
-laid text memory = cond (nat_le (length text) (length memory)) (text ++ drop (length text) memory) memory
+abbrev pub with_text : List ℕ → List ℕ → List ℕ
+with_text text memory = cond (nat_le (length text) (length memory)) (over text memory) memory
 
 -- the text is over the front of the memory that was given and its length is answered, or there was not enough memory to make it: then 0 is
 -- answered, and the memory is as it was given
-abbrev pub LaidOrNone : List ℕ → List ℕ → ℕ → List ℕ → Type 0
-LaidOrNone text before n after = ((n ≡ length text) × (after ≡ laid text before)) ⊎ ((n ≡ 0) × (after ≡ before))
+abbrev pub WrittenOrNone : List ℕ → List ℕ → ℕ → List ℕ → Type 0
+WrittenOrNone text before n after = ((n ≡ length text) × (after ≡ with_text text before)) ⊎ ((n ≡ 0) × (after ≡ before))

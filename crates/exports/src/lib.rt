@@ -3,12 +3,12 @@
 
 ghost use Rattle.std.specs.Prelude.{◌≡◌, length, Result};
 ghost use Rattle.calls.specs.declared.certificate.Certificate.{Certificate};
-ghost use Rattle.docket.specs.InStep.{three};
+ghost use Rattle.docket.specs.InAgreement.{three};
 ghost use Rattle.examination.specs.declared.examining.ExamineFault.{ExamineFault};
 ghost use Rattle.examination.specs.Traces.{examination_of, Comes};
 ghost use Rattle.report.specs.Reports.{report_on};
 ghost use Rattle.comparison.specs.Cases.{case_answer};
-ghost use Rattle.exports.specs.Plain.{number_of_layer, plain, laid, LaidOrNone};
+ghost use Rattle.exports.specs.Plain.{number_of_layer, plain, with_text, WrittenOrNone};
 
 use calls::certificate::Certificate;
 use comparison::case::answer_case;
@@ -80,9 +80,9 @@ impl From<Result<Certificate, ExamineFault>> for PlainOutcome {
 }
 
 // Lays a text over the front of the memory where it fits, and answers how long it is.
-fn lay(text: &[u8], memory: &mut [u8]) -> usize
+fn write_text(text: &[u8], memory: &mut [u8]) -> usize
     ensures length { result ≡ length text.now }
-    ensures memory { memory.new ≡ laid text.now memory.old }
+    ensures memory { memory.new ≡ with_text text.now memory.old }
 {
     if text.len() <= memory.len() {
         memory[..text.len()].copy_from_slice(text);
@@ -116,10 +116,10 @@ pub extern "C" fn examiner_certify(
 // Kept (C interface): a caller in C reads one number, so an Option is 0 here, which no text has as its length.
 #[unsafe(no_mangle)]
 pub extern "C" fn examiner_report(heap: Global, bytes: &[u8], text: &mut [u8]) -> usize
-    ensures { LaidOrNone (report_on bytes.now).text text.old result text.new }
+    ensures { WrittenOrNone (report_on bytes.now).text text.old result text.new }
 {
     match report_trace(heap, bytes) {
-        Ok(report) => lay(report.text.as_bytes(), text),
+        Ok(report) => write_text(report.text.as_bytes(), text),
         Err(_) => 0,
     }
 }
@@ -129,10 +129,10 @@ pub extern "C" fn examiner_report(heap: Global, bytes: &[u8], text: &mut [u8]) -
 // Kept (C interface): a caller in C reads one number, so an Option is 0 here, which no answer has as its length.
 #[unsafe(no_mangle)]
 pub extern "C" fn examiner_answer(heap: Global, letter: u8, body: &[u8], text: &mut [u8]) -> usize
-    ensures { LaidOrNone (case_answer letter body.now) text.old result text.new }
+    ensures { WrittenOrNone (case_answer letter body.now) text.old result text.new }
 {
     match answer_case(heap, letter, body) {
-        Ok(answer) => lay(answer.as_bytes(), text),
+        Ok(answer) => write_text(answer.as_bytes(), text),
         Err(_) => 0,
     }
 }

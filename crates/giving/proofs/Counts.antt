@@ -3,12 +3,22 @@ use Rattle.std.proofs.Common.{◌≡◌, ℕ, zero, suc, ◌+◌, ◌-◌, ◌<�
 use Rattle.std.specs.List.{insert, remove, AllByRecursion}
 use Rattle.std.proofs.lemmas.List.{reverse-append}
 use Rattle.std.proofs.lemmas.Bool.Decides.{nat_tests}
-use Rattle.std.proofs.lemmas.Bool.{cond_both}
+use Rattle.std.proofs.lemmas.Bool.{cond_both, cond-true, cond-false, eq-eqb, ne_eqb}
 use Rattle.giving.specs.Lists.{times, without, Once, Below}
 
 pub times_append : (a : ℕ) (xs ys : List ℕ) → times a (xs ++ ys) ≡ times a xs + times a ys
 times_append a [] ys = omega arith
 times_append a (x ∷ xs) ys = omega (arith, times_append a xs ys)
+
+-- one more code at the end
+pub times_push : (y x : ℕ) (p : List ℕ) → times y (p ++ x ∷ []) ≡ times y p + cond (eqb y x) 1 0
+times_push y x p = omega (arith, times_append y p (x ∷ []))
+
+pub times_self : (x : ℕ) (p : List ℕ) → times x (p ++ x ∷ []) ≡ times x p + 1
+times_self x p = omega (arith, times_push x x p, cond-true {A = ℕ} (eqb x x) 1 0 (eq-eqb x x refl))
+
+pub times_other : (y x : ℕ) (p : List ℕ) → (y ≡ x → ⊥) → times y (p ++ x ∷ []) ≡ times y p
+times_other y x p ne = omega (arith, times_push y x p, cond-false {A = ℕ} (eqb y x) 1 0 (ne_eqb y x ne))
 
 pub times_insert : (a x i : ℕ) (L : List ℕ) → times a (insert L i x) ≡ cond (eqb a x) 1 0 + times a L
 times_insert a x i L = omega (arith, times_append a (take i L) (x ∷ drop i L), times_append a (take i L) (drop i L), ap (times a) (take-append-drop i L))

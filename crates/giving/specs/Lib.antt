@@ -1,2 +1,3 @@
 pub mod Lists
 pub mod Laws
+pub mod Fronts

@@ -1,6 +1,6 @@
 -- A buffer whose front is written code by code, as far as a list and the buffer go. Assumes nothing.
 use Rattle.std.proofs.Common.{◌≡◌, ℕ, ◌+◌, ◌<◌, min, List, [], ◌∷◌, ◌++◌, length, get_or, take, drop, set, sym, ap, ◌∙◌, arith}
-use Rattle.std.proofs.lemmas.List.{drop_more, set_at, append_assoc, append-nil, length-take-le, take_more, take_min, drop_min, drop_all}
+use Rattle.std.proofs.lemmas.List.{drop_more, set_at, append_assoc, append-nil, length-take, length-take-le, take_more, take_min, drop_all}
 use Rattle.holder.specs.Answers.{front_over}
 
 -- with one more code
@@ -19,8 +19,9 @@ front_more L buffer now i c l h is was =
 pub front_all : (L buffer : List ℕ) (n : ℕ) → n ≡ min (length L) (length buffer) → take n L ++ drop n buffer ≡ front_over L buffer
 front_all L buffer n e =
     let f : n ≡ min (length buffer) (length L) = omega arith in
+    let l : n ≡ length (take (length buffer) L) = f ∙ sym (length-take (length buffer) L) in
     ap (λ (m : ℕ). take m L ++ drop n buffer) f ∙ ap (λ (l : List ℕ). l ++ drop n buffer) (take_min (length buffer) L)
-    ∙ ap (λ (m : ℕ). take (length buffer) L ++ drop m buffer) e ∙ ap (λ (l : List ℕ). take (length buffer) L ++ l) (drop_min (length L) buffer)
+    ∙ ap (λ (m : ℕ). take (length buffer) L ++ drop m buffer) l
 
 -- the same, where a part of the buffer was written to its end
 pub front_part : (L buffer part : List ℕ) (n : ℕ) → n ≡ min (length L) (length buffer) → part ≡ take n L ++ drop n (take n buffer) → part ++ drop n buffer ≡ front_over L buffer

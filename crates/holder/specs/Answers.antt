@@ -1,11 +1,12 @@
 -- What the calls of a holder answer, by its giving list L and its count of adds n. Assumes nothing.
-use Rattle.std.specs.Prelude.{ℕ, ◌≤◌, cond, List, ◌++◌, length, take, drop, Ok, Err, Result, nat_le, nat_lt, slice_index}
+use Rattle.std.specs.Prelude.{ℕ, ◌≤◌, cond, List, length, take, Ok, Err, Result, nat_le, nat_lt, slice_index}
+use Rattle.giving.specs.Fronts.{over}
 use Rattle.giving.specs.Lists.{place, stands, Once, Below}
 use Rattle.holder.specs.declared.fault.HolderFault.{HolderFault}
 use Rattle.holder.specs.declared.fault.HolderFault.TheVariants.{CodeTooLarge, AlreadyHeld, AddsUsedUp, NotHeld, NoSuchPlace}
 
 -- what holds of the giving list and the count of adds of every holder
-pub record Sound (L : List ℕ) (n : ℕ) : Type 0 where
+pub record SoundGiving (L : List ℕ) (n : ℕ) : Type 0 where
   pub once : Once L
   pub below : Below 1024 L
   pub held : length L ≤ n
@@ -21,9 +22,9 @@ rank_answer L c = cond (stands c L) (Ok (place c L)) (Err NotHeld)
 abbrev pub at_answer : List ℕ → ℕ → Result ℕ HolderFault
 at_answer L p = cond (nat_lt p (length L)) (Ok (slice_index L p)) (Err NoSuchPlace)
 
--- the first codes of L over the front of a buffer, as many as it has entries; the entries past L as they were
+-- the first codes of L over the front of a buffer, as many as it has entries
 abbrev pub front_over : List ℕ → List ℕ → List ℕ
-front_over L buffer = take (length buffer) L ++ drop (length L) buffer
+front_over L buffer = over (take (length buffer) L) buffer
 
 abbrev pub take_answer : List ℕ → ℕ → Result (Unit {0}) HolderFault
 take_answer L c = cond (stands c L) (Ok tt) (Err NotHeld)

@@ -5,7 +5,7 @@ use Rattle.std.proofs.lemmas.List.Edits.{insert_end}
 use Rattle.giving.proofs.Counts.{times_reverse, once_fewer, below_fewer}
 use Rattle.giving.proofs.Places.{stands_same, place_reverse, without_reverse}
 use Rattle.holder.specs.declared.row.Row.{Row}
-use Rattle.holder.specs.Answers.{Sound}
+use Rattle.holder.specs.Answers.{SoundGiving}
 use Rattle.holder.specs.Ends.{EndLaws}
 use Rattle.holder.specs.Kinds.{queue_given, queue_seat, stack_given, stack_seat}
 use Rattle.holder.specs.Rows.{row_list}
@@ -35,7 +35,7 @@ back_laws = record {
 }
 
 -- what holds of a row holds of its giving list
-pub line_sound : (given : List ℕ → List ℕ) (seat : List ℕ → ℕ → ℕ) (across : ℕ → ℕ → ℕ) → EndLaws given seat across → (r : Row) → Sound (given (row_list r)) r.added
+pub line_sound : (given : List ℕ → List ℕ) (seat : List ℕ → ℕ → ℕ) (across : ℕ → ℕ → ℕ) → EndLaws given seat across → (r : Row) → SoundGiving (given (row_list r)) r.added
 line_sound given seat across laws r =
     let L = row_list r in
     let n = length-take-le r.len r.codes (omega arith) in

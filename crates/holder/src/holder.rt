@@ -2,7 +2,7 @@
 ghost use Rattle.std.specs.Prelude.{◌≡◌, ℕ, ◌+◌, ◌≤◌, min, List, [], length, is_ok, if◌then◌else◌};
 ghost use Rattle.std.specs.List.{insert};
 ghost use Rattle.giving.specs.Lists.{without};
-ghost use Rattle.holder.specs.Answers.{Sound, add_answer, rank_answer, at_answer, take_answer, front_over};
+ghost use Rattle.holder.specs.Answers.{SoundGiving, add_answer, rank_answer, at_answer, take_answer, front_over};
 
 use crate::fault::HolderFault;
 
@@ -63,5 +63,5 @@ pub trait Holder: Sized {
 
     ghost seated: { (L : List ℕ) (c : ℕ) → seat L c ≤ length L };
 
-    ghost sound: { (h : Self) → Sound (giving h) (adds h) };
+    ghost sound: { (h : Self) → SoundGiving (giving h) (adds h) };
 }

@@ -131,7 +131,7 @@ mod plain {
 #[cfg(test)]
 mod tests {
     use crate::plain::{Seat, play};
-    use counting::alike::answers_as_queue;
+    use counting::answers_as_queue::answers_as_queue;
     use counting::queue::CountingQueue;
     use holder::fault::HolderFault;
     use holder::holder::Holder;

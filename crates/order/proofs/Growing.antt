@@ -25,8 +25,8 @@ module _ (seat : SeatRule) (ops : List Paired) where
   lateness_append a [] v L = omega arith
   lateness_append a (x ∷ u) v L = omega (arith, lateness_append a u v (after_step seat x (operation ops x).deed L))
 
-  pub one_more : (p : List ℕ) (x : ℕ) → OneMore seat ops p x
-  one_more p x = record {
+  pub one_more_step : (p : List ℕ) (x : ℕ) → OneMore seat ops p x
+  one_more_step p x = record {
     giving = giving_append p (x ∷ []) [];
     errors_by_step = ranks_append p (x ∷ []) [];
     latenesses = λ a. omega (arith, lateness_append a p (x ∷ []) []);

@@ -5,7 +5,7 @@ use Rattle.order.specs.declared.operation.Paired.{Paired}
 use Rattle.order.specs.Steps.{SeatRule, operation}
 use Rattle.order.specs.Times.{InstantsFrom, Instants, earliest_from, earliest}
 use Rattle.order.specs.Orders.{Placed}
-use Rattle.order.specs.Wordings.{AtEachPlace, InTimeOrder}
+use Rattle.order.specs.ByPlace.{AtEachPlace, InTimeOrder}
 use Rattle.order.proofs.Whole.{placed_instants}
 
 module _ (ops : List Paired) where

@@ -11,7 +11,7 @@ use Rattle.order.specs.Orders.{Placed, WithinBound}
 use Rattle.order.specs.Laws.{Sizes}
 use Rattle.order.proofs.Sums.{sum_below_times, sum_below_le}
 use Rattle.order.proofs.AddUp.{after_times}
-use Rattle.order.proofs.Whole.{placed_known, placed_near, placed_once}
+use Rattle.order.proofs.Whole.{placed_known, placed_bounded, placed_once}
 
 length_without : (a : ℕ) (L : List ℕ) → length (without a L) ≤ length L
 length_without a [] = omega arith
@@ -66,5 +66,5 @@ module _ (seat : SeatRule) (ops : List Paired) where
         few = omega (arith, held_length p []);
         adds = adds_le ops p;
         late = λ a. late_le a p [];
-        total = total_le k p [] (placed_near seat ops k p [] [] h);
+        total = total_le k p [] (placed_bounded seat ops k p [] [] h);
       }

@@ -4,7 +4,7 @@ use Rattle.giving.specs.Lists.{times}
 use Rattle.order.specs.declared.operation.Paired.{Paired}
 use Rattle.order.specs.Steps.{SeatRule, operation, after_step, giving_from, giving_after}
 use Rattle.order.specs.Orders.{Acceptable, PlacedFrom, Placed}
-use Rattle.order.specs.Wordings.{StepByStep}
+use Rattle.order.specs.ByPlace.{StepByStep}
 
 module _ (seat : SeatRule) (ops : List Paired) (k : ℕ) where
   -- only how often a number stands in `done` matters

@@ -26,18 +26,18 @@ free_given FoundEmpty [] h z = tt
 free_given FoundEmpty (x ∷ L) h z = absurd (omega arith)
 
 module _ (seat : SeatRule) (ops : List Paired) where
-  given_of_near : (p L : List ℕ) → WithinBound seat ops 0 L p → GivenStrictly seat ops L p
-  given_of_near [] L h = tt
-  given_of_near (x ∷ p) L h = (free_given (operation ops x).deed L h.0 h.1, given_of_near p (after_step seat x (operation ops x).deed L) h.2)
+  given_of_bounded : (p L : List ℕ) → WithinBound seat ops 0 L p → GivenStrictly seat ops L p
+  given_of_bounded [] L h = tt
+  given_of_bounded (x ∷ p) L h = (free_given (operation ops x).deed L h.0 h.1, given_of_bounded p (after_step seat x (operation ops x).deed L) h.2)
 
-  near_of_given : (p L : List ℕ) → GivenStrictly seat ops L p → WithinBound seat ops 0 L p
-  near_of_given [] L h = tt
-  near_of_given (x ∷ p) L h =
+  bounded_of_given : (p L : List ℕ) → GivenStrictly seat ops L p → WithinBound seat ops 0 L p
+  bounded_of_given [] L h = tt
+  bounded_of_given (x ∷ p) L h =
       let d : Deed = (operation ops x).deed in
-      (has_one d L 0 (given_stretch d L h.0), given_free d L h.0, near_of_given p (after_step seat x d L) h.1)
+      (has_one d L 0 (given_stretch d L h.0), given_free d L h.0, bounded_of_given p (after_step seat x d L) h.1)
 
   pub strict_of_true : (p : List ℕ) → TrueOrder seat ops 0 p → StrictOrder seat ops p
-  strict_of_true p t = record { timed = t.timed; given = given_of_near p [] t.near }
+  strict_of_true p t = record { timed = t.timed; given = given_of_bounded p [] t.within_bound }
 
   pub true_of_strict : (p : List ℕ) → StrictOrder seat ops p → TrueOrder seat ops 0 p
-  true_of_strict p t = record { timed = t.timed; near = near_of_given p [] t.given }
+  true_of_strict p t = record { timed = t.timed; within_bound = bounded_of_given p [] t.given }

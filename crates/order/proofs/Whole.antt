@@ -21,26 +21,26 @@ later ops m (x ∷ p) (t ∷ ts) b i h =
 module _ (seat : SeatRule) (ops : List Paired) (k : ℕ) where
   pub place_all : (p done L : List ℕ) (m : ℕ) (ts : List ℕ) → AllByRecursion (λ x. x < length ops) p → ((b : ℕ) → b < length ops → times b done + times b p ≡ 1)
       → WithinBound seat ops k L p → InstantsFrom ops m p ts → PlacedFrom seat ops k done L p
-  place_all [] done L m ts low one near i = tt
-  place_all (x ∷ p) done L m [] low one near i = absurd i
-  place_all (x ∷ p) done L m (t ∷ ts) low one near i = (
+  place_all [] done L m ts low one within_bound i = tt
+  place_all (x ∷ p) done L m [] low one within_bound i = absurd i
+  place_all (x ∷ p) done L m (t ∷ ts) low one within_bound i = (
     record {
       known = low.0;
       fresh = omega (arith, cond-true {A = ℕ} (eqb x x) 1 0 (eq-eqb x x refl), one x low.0);
       in_time = λ b l z. le-ltb (operation ops b).end (operation ops x).start (omega (arith, later ops t (x ∷ p) (t ∷ ts) b (omega arith, i.1, i.2, i.3) (omega (arith, one b l))));
-      ranked = near.0;
-      small = near.1;
+      ranked = within_bound.0;
+      small = within_bound.1;
     },
-    place_all p (x ∷ done) (after_step seat x (operation ops x).deed L) t ts low.1 (λ b l. omega (arith, one b l)) near.2 i.3,
+    place_all p (x ∷ done) (after_step seat x (operation ops x).deed L) t ts low.1 (λ b l. omega (arith, one b l)) within_bound.2 i.3,
   )
 
   pub placed_known : (p done L : List ℕ) → PlacedFrom seat ops k done L p → AllByRecursion (λ x. x < length ops) p
   placed_known [] done L h = tt
   placed_known (x ∷ p) done L h = (h.0.known, placed_known p (x ∷ done) (after_step seat x (operation ops x).deed L) h.1)
 
-  pub placed_near : (p done L : List ℕ) → PlacedFrom seat ops k done L p → WithinBound seat ops k L p
-  placed_near [] done L h = tt
-  placed_near (x ∷ p) done L h = (h.0.ranked, h.0.small, placed_near p (x ∷ done) (after_step seat x (operation ops x).deed L) h.1)
+  pub placed_bounded : (p done L : List ℕ) → PlacedFrom seat ops k done L p → WithinBound seat ops k L p
+  placed_bounded [] done L h = tt
+  placed_bounded (x ∷ p) done L h = (h.0.ranked, h.0.small, placed_bounded p (x ∷ done) (after_step seat x (operation ops x).deed L) h.1)
 
   pub placed_once : (p done L : List ℕ) → ((a : ℕ) → times a done ≤ 1) → PlacedFrom seat ops k done L p → (a : ℕ) → times a done + times a p ≤ 1
   placed_once [] done L one h a = omega (arith, one a)
@@ -63,7 +63,7 @@ module _ (seat : SeatRule) (ops : List Paired) (k : ℕ) where
 
   pub placed_of_true : (p : List ℕ) → TrueOrder seat ops k p → Placed seat ops k p × (length p ≡ length ops)
   placed_of_true p t = (
-    place_all p [] [] 0 t.timed.instants.0 t.timed.known (λ b l. omega (arith, t.timed.once b l)) t.near t.timed.instants.1,
+    place_all p [] [] 0 t.timed.instants.0 t.timed.known (λ b l. omega (arith, t.timed.once b l)) t.within_bound t.timed.instants.1,
     sym (sum_below_times (length ops) p t.timed.known) ∙ sum_below_ones (length ops) (λ a. times a p) t.timed.once,
   )
 
@@ -75,5 +75,5 @@ module _ (seat : SeatRule) (ops : List Paired) (k : ℕ) where
           (omega (arith, sum_below_times (length ops) p (placed_known p [] [] h)));
       instants = (earliest ops p, placed_instants p [] [] 0 (λ b l z. omega arith) h);
     };
-    near = placed_near p [] [] h;
+    within_bound = placed_bounded p [] [] h;
   }

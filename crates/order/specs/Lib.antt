@@ -3,4 +3,4 @@ pub mod Times
 pub mod Orders
 pub mod Strict
 pub mod Laws
-pub mod Wordings
+pub mod ByPlace

@@ -39,4 +39,4 @@ pub record Timed (ops : List Paired) (p : List ℕ) : Type 0 where
 -- a true order also has a rank error of at most k at each step
 pub record TrueOrder (seat : SeatRule) (ops : List Paired) (k : ℕ) (p : List ℕ) : Type 0 where
   pub timed : Timed ops p
-  pub near : WithinBound seat ops k [] p
+  pub within_bound : WithinBound seat ops k [] p

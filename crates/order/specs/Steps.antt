@@ -10,9 +10,13 @@ use Rattle.order.specs.declared.operation.Paired.{Paired}
 abbrev pub SeatRule : Type 0
 SeatRule = List ℕ → ℕ → ℕ
 
--- the operation with the number x; what stands past the last is never asked for
+-- what stands past the last operation: it is never asked for
+abbrev pub nothing : Paired
+nothing = record { deed = Add; thread = 0; start = 0; end = 0 }
+
+-- the operation with the number x
 abbrev pub operation : List Paired → ℕ → Paired
-operation ops x = slice_index_or ops x (record { deed = Add; thread = 0; start = 0; end = 0 })
+operation ops x = slice_index_or ops x nothing
 
 -- ---- one step, at the giving list L
 

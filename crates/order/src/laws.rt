@@ -1,6 +1,6 @@
 // The laws of orders.
 ghost use Rattle.order.specs.Laws.{RankErrorsAddUp, RankErrorIsShortestStretch, TrueOrdersArePlacedWhole, EarliestInstantsAreLeast, StrictIsBoundZero, OneMoreStep, OnlyAddsAreLate, PlacedOrdersStaySmall};
-ghost use Rattle.order.specs.Wordings.{PlacedStepByStep, InstantsByPlace, AdmitsExactlyInTimeOrder, PlacedInTimeOrder};
+ghost use Rattle.order.specs.ByPlace.{PlacedStepByStep, InstantsByPlace, AdmitsExactlyInTimeOrder, PlacedInTimeOrder};
 
 // What an order costs and which orders are true. The function does nothing: its contract says that the laws hold.
 // - The rank errors of a placed order add up to its passings-over.

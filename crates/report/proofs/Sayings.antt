@@ -18,7 +18,7 @@ use Rattle.trace.specs.declared.fault.ReadFault.TheVariants.{Frame, Entry}
 use Rattle.trace.specs.declared.fault.WriteFault.{WriteFault}
 use Rattle.trace.specs.declared.fault.WriteFault.TheVariants.{Memory}
 use Rattle.trace.specs.declared.read.Accepted.{Accepted}
-use Rattle.trace.specs.Answers.{Said, said, saying_of, held}
+use Rattle.trace.specs.Answers.{Said, said, saying_of, sheet_after}
 use Rattle.trace.specs.Copying.{copying, Copied}
 use Rattle.trace.specs.Faults.{read_refusal, copy_refusal}
 use Rattle.trace.specs.Reading.{Outcome}
@@ -45,7 +45,7 @@ module _ {I : Type 0} (t : Ghosts I) where
       ap (λ z. verdict_of_order t (seat_of (kind_number a.kind)) z a.k (order_of a.order)) h
       ∙ ap (λ (s : Said). verdict_of_order t (seat_of s.kind) c.ops s.k s.order) (sym e)
 
-  pub examined_said : (o : Outcome I) (old os : List (Operation I)) (size : ℕ) (a : Accepted) → Ok (said a) ≡ copying size o → os ≡ held old o →
+  pub examined_said : (o : Outcome I) (old os : List (Operation I)) (size : ℕ) (a : Accepted) → Ok (said a) ≡ copying size o → os ≡ sheet_after old o →
       verdict_of_order t (seat_of (kind_number a.kind)) os a.k (order_of a.order) ≡ saying t o
   examined_said (unread f) old os size a e h = absurd (cc)
   examined_said (refused fs i f) old os size a e h = absurd (cc)

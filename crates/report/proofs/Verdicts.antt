@@ -14,13 +14,14 @@ use Rattle.order.proofs.Earliest.{length_earliest}
 use Rattle.calls.specs.declared.fault.DocketFault.{DocketFault}
 use Rattle.calls.specs.declared.fault.DocketFault.TheVariants.{BufferTooShort}
 use Rattle.calls.specs.declared.certificate.Certificate.{Certificate}
-use Rattle.calls.specs.Rules.{run_of, Buffers, over, is_too_short, latenesses_of, certificate_of, certify_answer, written, unless_missing, missing}
+use Rattle.giving.specs.Fronts.{over}
+use Rattle.calls.specs.Rules.{run_of, Buffers, is_too_short, latenesses_of, figures_of, certificate_of, certify_answer, written, unless_missing, missing}
 use Rattle.calls.proofs.Grants.{length_values, false_short}
 use Rattle.docket.specs.Pairs.{paired_all, paired_of}
 use Rattle.examination.specs.Orders.{unless_stopped, refused_as, order_answer, order_written}
 use Rattle.examination.proofs.Grants as order
 use Rattle.report.specs.Lines.{up_to, step_at, line_of_step, lines_of_steps, late_of, late_at, lines_of_lates, line_of_certified}
-use Rattle.report.specs.Reports.{Verdict, answering, whole, stopping, verdict_of_order, certificate_text}
+use Rattle.report.specs.Reports.{Verdict, granting, answering, whole, stopping, verdict_of_order}
 
 -- ---- lines from the front of a buffer
 
@@ -48,7 +49,7 @@ module _ {I : Type 0} (t : Ghosts I) (seat : SeatRule) (os : List (Operation I))
   abbrev ops : List Paired
   ops = paired_all t.number os
 
-  certificate_said : answering os k p (Ok (certificate_of seat ops p)) (written seat ops p b (Ok (certificate_of seat ops p))) ≡ record { text = certificate_text t seat os k p; granted = true }
+  certificate_said : answering os k p (Ok (certificate_of seat ops p)) (written seat ops p b (Ok (certificate_of seat ops p))) ≡ granting os k p (certificate_of seat ops p) (figures_of seat ops p)
   certificate_said =
       let n : length (latenesses_of seat ops p) ≡ length os =
       length_values (λ a. lateness seat ops a p) 0 (length ops)

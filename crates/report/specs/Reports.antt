@@ -1,5 +1,5 @@
 -- What is printed of a trace.
-use Rattle.std.specs.Prelude.{ℕ, Bool, true, false, cond, List, [], ◌++◌, length, Some, None, Ok, Err, string_bytes, codes, Option, Result, ◌==◌}
+use Rattle.std.specs.Prelude.{ℕ, Bool, true, false, List, [], ◌++◌, length, Some, None, Ok, Err, string_bytes, codes, Option, Result}
 use Rattle.refusal.specs.declared.Refusal.{Refusal}
 use Rattle.refusal.specs.Wording.{refusal_line}
 use Rattle.item.specs.declared.item.Item.{Ghosts}
@@ -11,16 +11,15 @@ use Rattle.trace.specs.Faults.{entry_refusal}
 use Rattle.trace.specs.Reading.{Outcome, reading}
 use Rattle.trace.specs.Reading.Outcome.{unread, refused, accepted}
 use Rattle.order.specs.declared.operation.Paired.{Paired}
-use Rattle.order.specs.Steps.{SeatRule, rank_errors}
-use Rattle.order.specs.Times.{earliest}
+use Rattle.order.specs.Steps.{SeatRule}
 use Rattle.calls.specs.declared.fault.DocketFault.{DocketFault}
 use Rattle.calls.specs.declared.fault.DocketFault.TheVariants.{StepsMissing}
 use Rattle.calls.specs.Faults.{docket_refusal}
 use Rattle.calls.specs.declared.certificate.Certificate.{Certificate}
-use Rattle.calls.specs.Rules.{Buffers, run_of, missing, latenesses_of, certificate_of}
+use Rattle.calls.specs.Rules.{Buffers, run_of, missing, figures_of, certificate_of}
 use Rattle.docket.specs.Pairs.{paired_all}
 use Rattle.examination.specs.Kinds.{seat_of}
-use Rattle.examination.specs.Traces.{type_of}
+use Rattle.examination.specs.Traces.{by_type}
 use Rattle.report.specs.declared.verdict.Report.{Report}
 use Rattle.report.specs.Lines.{lines_of_steps, lines_of_lates, line_of_certified}
 
@@ -53,15 +52,10 @@ module _ {I : Type 0} (t : Ghosts I) where
     abbrev pub ops : List Paired
     ops = paired_all t.number os
 
-    -- the certificate of an order: its steps, the latenesses of the adds, and the sums
-    abbrev pub certificate_text : List ℕ → List ℕ
-    certificate_text p =
-        lines_of_steps p (rank_errors seat ops p) (earliest ops p) ++ (lines_of_lates os (latenesses_of seat ops p) ++ line_of_certified k (certificate_of seat ops p))
-
     -- where every step was accepted: a certificate, unless an operation is missing
     abbrev pub whole : List ℕ → Option ℕ → Verdict
     whole p (Some a) = refusing (docket_refusal (StepsMissing (length p) a))
-    whole p None = record { text = certificate_text p; granted = true }
+    whole p None = granting os k p (certificate_of seat ops p) (figures_of seat ops p)
 
     -- where a step was refused, that refusal
     abbrev pub stopping : List ℕ → Option DocketFault → Verdict
@@ -78,6 +72,6 @@ module _ {I : Type 0} (t : Ghosts I) where
   saying (refused os i e) = refusing (entry_refusal i e)
   saying (accepted c) = verdict_of_order (seat_of c.kind) c.ops c.k c.order
 
--- type 1 goes to the reader of stamps, every other trace to that of tickets; there is room for 1,024 operations
+-- what is said of a trace, by its item type; there is room for 1,024 operations
 abbrev pub report_on : List ℕ → Verdict
-report_on bs = cond (type_of bs == 1) (saying stamp_items (reading stamp_items 1024 bs)) (saying ticket_items (reading ticket_items 1024 bs))
+report_on bs = by_type bs (saying stamp_items (reading stamp_items 1024 bs)) (saying ticket_items (reading ticket_items 1024 bs))

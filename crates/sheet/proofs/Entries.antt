@@ -2,7 +2,7 @@
 use Rattle.std.proofs.Common.{◌≡◌, ℕ, ◌+◌, ◌<◌, ◌≤◌, min, Bool, true, false, cond, ltb, leb, List, [], ◌∷◌, ◌++◌, length, take, drop, set, Some, None, Ok, Option, sym, refl, ap, ◌∙◌, subst, append_assoc, append-nil, arith, length-set, length-take-le, drop-set-lt}
 use mathlib.Core.Logic.{∥∥₁_map}
 use Rattle.std.proofs.lemmas.List.{take-append-drop, take_more_set}
-use Rattle.sheet.specs.Sheets.{filled}
+use Rattle.giving.specs.Fronts.{over}
 use Rattle.std.proofs.lemmas.Bool.Decides.{nat_tests}
 use Rattle.refusal.proofs.Checks.{passed}
 use Rattle.sheet.specs.declared.operation.Method.{Method}
@@ -10,7 +10,7 @@ use Rattle.sheet.specs.declared.operation.Method.TheVariants.{Add, Take, FoundEm
 use Rattle.sheet.specs.declared.operation.Operation.{Operation}
 use Rattle.sheet.specs.declared.fault.SheetFault.TheVariants.{Full, EndBeforeStart}
 use Rattle.sheet.specs.Alike.{alike, first_alike_in}
-use Rattle.sheet.specs.Consistency.{Same, New, Consistent}
+use Rattle.sheet.specs.Consistency.{Same, NewMethod, Consistent}
 use Rattle.sheet.specs.Entering.{enter_answer, unless_repeated}
 
 not_there : (b : Bool) (k : ℕ) (r : Option ℕ) → cond b (Some k) r ≡ None → (b ≡ false) × (r ≡ None)
@@ -33,7 +33,7 @@ module _ {I : Type 0} (number : I → ℕ) where
   unlike FoundEmpty (Take y) e s = s
   unlike FoundEmpty FoundEmpty e s = s
 
-  new_from_none : (m : Method I) (k : ℕ) (os : List (Operation I)) → first_alike_in number m k os ≡ None → New m os
+  new_from_none : (m : Method I) (k : ℕ) (os : List (Operation I)) → first_alike_in number m k os ≡ None → NewMethod m os
   new_from_none m k [] e = tt
   new_from_none m k (o ∷ os) e =
       let p = not_there (alike number o.method m) k (first_alike_in number m (k + 1) os) e in
@@ -43,7 +43,7 @@ module _ {I : Type 0} (number : I → ℕ) where
   pub record Entered (room : ℕ) (os : List (Operation I)) (op : Operation I) : Type 0 where
     pub place : length os < room
     pub timed : op.start ≤ op.end
-    pub fresh : New op.method os
+    pub fresh : NewMethod op.method os
 
   pub enter_back : (room at : ℕ) (os : List (Operation I)) (op : Operation I) → enter_answer number room os op ≡ Ok at → Entered room os op
   enter_back room at os op e =
@@ -64,13 +64,13 @@ module _ {I : Type 0} (number : I → ℕ) where
       e ∙ sym q.1 ∙ ap (unless_repeated op.method (length os)) n
 
 module _ {I : Type 0} where
-  consistent_push : (os ops : List (Operation I)) (op : Operation I) → Consistent os ops → op.start ≤ op.end → New op.method (os ++ ops) →
+  consistent_push : (os ops : List (Operation I)) (op : Operation I) → Consistent os ops → op.start ≤ op.end → NewMethod op.method (os ++ ops) →
       Consistent os (ops ++ op ∷ [])
-  consistent_push os [] op s t f = (t, subst (New op.method) (append-nil os) f, tt)
+  consistent_push os [] op s t f = (t, subst (NewMethod op.method) (append-nil os) f, tt)
   consistent_push os (o ∷ ops) op s t f =
-      (s.0, s.1, consistent_push (os ++ o ∷ []) ops op s.2 t (subst (New op.method) (sym (append_assoc os (o ∷ []) ops)) f))
+      (s.0, s.1, consistent_push (os ++ o ∷ []) ops op s.2 t (subst (NewMethod op.method) (sym (append_assoc os (o ∷ []) ops)) f))
 
-  written : (xs : List (Operation I)) (k : ℕ) (x : Operation I) → k < length xs → set xs k x ≡ filled (take (k + 1) (set xs k x)) xs
+  written : (xs : List (Operation I)) (k : ℕ) (x : Operation I) → k < length xs → set xs k x ≡ over (take (k + 1) (set xs k x)) xs
   written xs k x h =
       let n = length-set xs k x in
       let l = length-take-le (k + 1) (set xs k x) (omega arith) in
@@ -83,7 +83,7 @@ module _ {I : Type 0} where
     pub within : count + 1 ≤ length (set mem count op)
     pub bounded : count + 1 ≤ 1024
     pub consistent : ∥ Consistent [] (take (count + 1) (set mem count op)) ∥₁
-    pub memory : set mem count op ≡ filled (take (count + 1) (set mem count op)) mem
+    pub memory : set mem count op ≡ over (take (count + 1) (set mem count op)) mem
     pub room : min (length (set mem count op)) 1024 ≡ min (length mem) 1024
 
   pub grown : (number : I → ℕ) (mem : List (Operation I)) (count at : ℕ) (op : Operation I) → count ≤ length mem → count ≤ 1024 →

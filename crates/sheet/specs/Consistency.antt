@@ -18,11 +18,11 @@ module _ {I : Type 0} where
   Same FoundEmpty FoundEmpty = ⊥
 
   -- none of the operations does what the method does
-  abbrev pub New : Method I → List (Operation I) → Type 0
-  New m [] = Unit {0}
-  New m (o ∷ os) = (Same o.method m → ⊥) × New m os
+  abbrev pub NewMethod : Method I → List (Operation I) → Type 0
+  NewMethod m [] = Unit {0}
+  NewMethod m (o ∷ os) = (Same o.method m → ⊥) × NewMethod m os
 
   -- after the operations before, each of ops ends no sooner than it starts, and none adds or takes an item that one before it did
   abbrev pub Consistent : List (Operation I) → List (Operation I) → Type 0
   Consistent before [] = Unit {0}
-  Consistent before (op ∷ ops) = (op.start ≤ op.end) × New op.method before × Consistent (before ++ op ∷ []) ops
+  Consistent before (op ∷ ops) = (op.start ≤ op.end) × NewMethod op.method before × Consistent (before ++ op ∷ []) ops

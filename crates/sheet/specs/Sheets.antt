@@ -1,5 +1,6 @@
 -- What a sheet holds.
-use Rattle.std.specs.Prelude.{◌≡◌, ℕ, min, List, ◌++◌, length, take, drop}
+use Rattle.std.specs.Prelude.{◌≡◌, ℕ, min, List, length, take}
+use Rattle.giving.specs.Fronts.{over}
 use Rattle.sheet.specs.declared.operation.Operation.{Operation}
 use Rattle.sheet.specs.declared.sheet.Sheet.{Sheet}
 
@@ -16,12 +17,8 @@ module _ {I : Type 0} where
   abbrev pub room : Sheet I → ℕ
   room s = min (length s.records.now) 1024
 
-  -- memory whose first records are those given, and whose others are as before
-  abbrev pub filled : List (Operation I) → List (Operation I) → List (Operation I)
-  filled os before = os ++ drop (length os) before
-
   -- a sheet that still stands on the same caller's records: the first of them are those entered, and the others are as before
   pub record SameLoan (before after : Sheet I) : Type 0 where
-    pub memory : memory after ≡ filled (entered after) (memory before)
+    pub memory : memory after ≡ over (entered after) (memory before)
     pub room : room after ≡ room before
     pub lender : after.records.ghost_name ≡ before.records.ghost_name

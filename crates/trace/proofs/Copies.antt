@@ -11,11 +11,11 @@ use Rattle.trace.specs.declared.fault.CopyFault.TheVariants.{Reading, Writing}
 use Rattle.trace.specs.Contents.{Contents}
 use Rattle.trace.specs.Reading.{Outcome, reading}
 use Rattle.trace.specs.Reading.Outcome.{unread, refused, accepted}
-use Rattle.trace.specs.Answers.{answered, saying_of}
+use Rattle.trace.specs.Answers.{read_answer, saying_of}
 use Rattle.trace.specs.Copying.{copying}
 use Rattle.trace.proofs.Readings.{length_encode, reading_back}
 
-pub not_read : {I : Type 0} (bytes : ℕ) (o : Outcome I) (e : ReadFault) → Err e ≡ answered o → Err (Reading e) ≡ copying bytes o
+pub not_read : {I : Type 0} (bytes : ℕ) (o : Outcome I) (e : ReadFault) → Err e ≡ read_answer o → Err (Reading e) ≡ copying bytes o
 not_read bytes (unread f) e p = let q : e ≡ _ = cc in ap (λ z. Err (Reading z)) q
 not_read bytes (refused os i f) e p = let q : e ≡ _ = cc in ap (λ z. Err (Reading z)) q
 not_read bytes (accepted c) e p = absurd cc

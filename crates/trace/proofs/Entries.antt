@@ -14,7 +14,7 @@ use Rattle.sheet.specs.declared.operation.Method.TheVariants.{Add, Take, FoundEm
 use Rattle.sheet.specs.declared.operation.Operation.{Operation}
 use Rattle.sheet.specs.declared.fault.SheetFault.TheVariants.{Full, EndBeforeStart}
 use Rattle.sheet.specs.Alike.{alike, first_alike_in}
-use Rattle.sheet.specs.Consistency.{Same, New, Consistent}
+use Rattle.sheet.specs.Consistency.{Same, NewMethod, Consistent}
 use Rattle.sheet.specs.Entering.{enter_answer, unless_repeated}
 use Rattle.sheet.proofs.Entries.{enter_back, enter_number}
 use Rattle.record.specs.Records.{Fit, FitMethod}
@@ -76,13 +76,13 @@ module _ {I : Type 0} (t : Ghosts I) where
     unlike FoundEmpty (Take y) f h n = refl
     unlike FoundEmpty FoundEmpty f h n = refl
 
-    none_alike : (m : Method I) (k : ℕ) (os : List (Operation I)) → FitMethod t m → AllFit t os → New m os → first_alike_in t.number m k os ≡ None
+    none_alike : (m : Method I) (k : ℕ) (os : List (Operation I)) → FitMethod t m → AllFit t os → NewMethod m os → first_alike_in t.number m k os ≡ None
     none_alike m k [] f a n = refl
     none_alike m k (o ∷ os) f a n =
         ap (λ b. cond b (Some k) (first_alike_in t.number m (k + 1) os)) (unlike o.method m a.0.method f n.0) ∙ none_alike m (k + 1) os f a.1 n.1
 
     enter_there : (room : ℕ) (os : List (Operation I)) (op : Operation I) → length os < room → AllFit t os → Fit t op → op.start ≤ op.end →
-        New op.method os → enter_answer t.number room os op ≡ Ok (length os)
+        NewMethod op.method os → enter_answer t.number room os op ≡ Ok (length os)
     enter_there room os op l a f s n =
         let p : leb room (length os) ≡ false = grind (arith, nat_tests) in
         let q : ltb op.end op.start ≡ false = grind (arith, nat_tests) in

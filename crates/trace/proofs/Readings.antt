@@ -17,7 +17,7 @@ use Rattle.frame.specs.Orders.{numbers_of}
 use Rattle.trace.specs.Contents.{Contents, contents, encode, Sound}
 use Rattle.trace.specs.declared.fault.ReadFault.{ReadFault}
 use Rattle.trace.specs.declared.read.Accepted.{Accepted}
-use Rattle.trace.specs.Answers.{Said, said, saying_of, shown, answered, held, contents_of}
+use Rattle.trace.specs.Answers.{Said, said, saying_of, shown, read_answer, sheet_after, contents_of}
 use Rattle.trace.specs.Reading.{Run, Outcome, run, ended, framed, reading}
 use Rattle.trace.specs.Reading.Run.{going, stopped}
 use Rattle.trace.specs.Reading.Outcome.{unread, refused, accepted}
@@ -113,7 +113,7 @@ module _ {I : Type 0} (t : Ghosts I) (law : Lawful t) (room : ℕ) (bs : List �
       ∙ ap (λ q. accepted (contents (kind_number kind.0) c.k c.ops q)) o ∙ ap (λ m. accepted (contents m c.k c.ops c.order)) kind.1
 
 -- an answer that accepts says the contents
-pub accepted_of : {I : Type 0} (r : Result Accepted ReadFault) (o : Outcome I) (old os : List (Operation I)) → shown r ≡ answered o → os ≡ held old o →
+pub accepted_of : {I : Type 0} (r : Result Accepted ReadFault) (o : Outcome I) (old os : List (Operation I)) → shown r ≡ read_answer o → os ≡ sheet_after old o →
     IfOk r (λ a. o ≡ accepted (contents_of a os))
 accepted_of (Err f) o old os e h = tt
 accepted_of (Ok a) (unread f) old os e h = absurd cc
@@ -125,23 +125,23 @@ accepted_of {I} (Ok a) (accepted c) old os e h =
     ap (λ d. accepted d) q
 
 module _ {I : Type 0} (t : Ghosts I) (law : Lawful t) (room : ℕ) (bs : List ℕ) where
-  right_answer : Bytes bs → (r : Result Accepted ReadFault) (old os : List (Operation I)) → shown r ≡ answered (reading t room bs) → os ≡ held old (reading t room bs) →
+  right_answer : Bytes bs → (r : Result Accepted ReadFault) (old os : List (Operation I)) → shown r ≡ read_answer (reading t room bs) → os ≡ sheet_after old (reading t room bs) →
       IfOk r (λ a. Right t law room bs (contents_of a os))
   right_answer b (Err f) old os e h = tt
   right_answer b (Ok a) old os e h = reading_back t law room bs (contents_of a os) b (accepted_of (Ok a) (reading t room bs) old os e h)
 
-  pub sound_answer : Bytes bs → (r : Result Accepted ReadFault) (old os : List (Operation I)) → shown r ≡ answered (reading t room bs) → os ≡ held old (reading t room bs) →
+  pub sound_answer : Bytes bs → (r : Result Accepted ReadFault) (old os : List (Operation I)) → shown r ≡ read_answer (reading t room bs) → os ≡ sheet_after old (reading t room bs) →
       IfOk r (λ a. Sound t room (contents_of a os))
   sound_answer b (Err f) old os e h = tt
   sound_answer b (Ok a) old os e h = (right_answer b (Ok a) old os e h).sound
 
-  pub encoded_answer : Bytes bs → (r : Result Accepted ReadFault) (old os : List (Operation I)) → shown r ≡ answered (reading t room bs) → os ≡ held old (reading t room bs) →
+  pub encoded_answer : Bytes bs → (r : Result Accepted ReadFault) (old os : List (Operation I)) → shown r ≡ read_answer (reading t room bs) → os ≡ sheet_after old (reading t room bs) →
       IfOk r (λ a. bs ≡ encode t (contents_of a os))
   encoded_answer b (Err f) old os e h = tt
   encoded_answer b (Ok a) old os e h = (right_answer b (Ok a) old os e h).bytes
 
-  pub exact_answer : (r : Result Accepted ReadFault) (old os : List (Operation I)) → shown r ≡ answered (reading t room bs) → os ≡ held old (reading t room bs) →
+  pub exact_answer : (r : Result Accepted ReadFault) (old os : List (Operation I)) → shown r ≡ read_answer (reading t room bs) → os ≡ sheet_after old (reading t room bs) →
       (c : Contents I) → Sound t room c → bs ≡ encode t c → (shown r ≡ Ok (saying_of c)) × (os ≡ c.ops)
   exact_answer r old os e h c s p =
       let q = reading_there t law room bs c s p in
-      (e ∙ ap answered q, h ∙ ap (held old) q)
+      (e ∙ ap read_answer q, h ∙ ap (sheet_after old) q)

@@ -18,8 +18,8 @@ use Rattle.trace.specs.declared.fault.EntryFault.{EntryFault}
 use Rattle.trace.specs.declared.fault.RefusedRecord.{RefusedRecord}
 use Rattle.frame.specs.Layout.{record_count, record_at, records_in}
 use Rattle.frame.proofs.RecordPlaces.{length_records, record_in_turn}
-use Rattle.trace.specs.Answers.{left_at, left_by}
-use Rattle.trace.specs.Reading.{Run, if_entered, if_decoded, after, taken, next, run}
+use Rattle.trace.specs.Answers.{left_at, left_after}
+use Rattle.trace.specs.Reading.{Run, if_entered, if_decoded, after_record, taken, next, run}
 use Rattle.trace.specs.Reading.Run.{going, stopped}
 use Rattle.trace.proofs.Entries.{Enters, enters_push}
 
@@ -42,7 +42,7 @@ record_add bs i =
 abbrev pub placed : ℕ → Result (Unit {0}) EntryFault → Result (Unit {0}) RefusedRecord
 placed i = result_map_both (λ u. u) (λ e. record { place = i; fault = e })
 
-left_placed : {I : Type 0} (i : ℕ) (r : Result (Unit {0}) EntryFault) (os : List (Operation I)) → left_at i r os ≡ left_by (placed i r) os
+left_placed : {I : Type 0} (i : ℕ) (r : Result (Unit {0}) EntryFault) (os : List (Operation I)) → left_at i r os ≡ left_after (placed i r) os
 left_placed i (Ok u) os = refl
 left_placed i (Err e) os = refl
 
@@ -56,27 +56,27 @@ module _ {I : Type 0} (t : Ghosts I) (room : ℕ) (bs : List ℕ) where
 
   -- one more record
   one_more : (i : ℕ) (os : List (Operation I)) (rec : List ℕ) (r : Run I) → run t room bs i ≡ going os → rec ≡ record_at i bs →
-      after os i (taken t room os rec) ≡ r → run t room bs (i + 1) ≡ r
+      after_record os i (taken t room os rec) ≡ r → run t room bs (i + 1) ≡ r
   one_more i os rec r p q s =
-      ap (run t room bs) (add-one i) ∙ ap (next t room bs i) p ∙ ap (λ z. after os i (taken t room os z)) (sym q) ∙ s
+      ap (run t room bs) (add-one i) ∙ ap (next t room bs i) p ∙ ap (λ z. after_record os i (taken t room os z)) (sym q) ∙ s
 
   -- a turn of the loop over the records, on a sheet whose room is as it was
   module _ (i room' : ℕ) (recs : List (List ℕ)) (os fin : List (Operation I)) (r : Result (Unit {0}) EntryFault) (all : recs ≡ records_in bs)
       (inside : i < length recs) (before : run t room bs i ≡ going os) (same : room' ≡ room)
-      (step : (j : ℕ) → after os j (taken t room' os (get_or recs i [])) ≡ left_at j r fin) where
+      (step : (j : ℕ) → after_record os j (taken t room' os (get_or recs i [])) ≡ left_at j r fin) where
     counted : i < record_count bs
     counted = let l = ap length all ∙ length_records bs in omega arith
 
-    pub turn : run t room bs (i + 1) ≡ left_by (placed i r) fin
+    pub turn : run t room bs (i + 1) ≡ left_after (placed i r) fin
     turn =
         let here = ap (λ rs. get_or rs i []) all ∙ record_in_turn i bs [] counted in
-        one_more i os (get_or recs i []) (left_by (placed i r) fin) before here (ap (λ m. after os i (taken t m os (get_or recs i []))) (sym same) ∙ step i ∙ left_placed i r fin)
+        one_more i os (get_or recs i []) (left_after (placed i r) fin) before here (ap (λ m. after_record os i (taken t m os (get_or recs i []))) (sym same) ∙ step i ∙ left_placed i r fin)
 
     pub turned_away : (e : RefusedRecord) → placed i r ≡ Err e → run t room bs (record_count bs) ≡ stopped fin e.place e.fault
     turned_away e p =
         let n = record_count bs in
         let k : record_count bs - (i + 1) + (i + 1) ≡ record_count bs = let h = counted in omega arith in
-        ap (run t room bs) (sym k) ∙ stays (n - (i + 1)) (i + 1) e.place fin e.fault (turn ∙ ap (λ m. left_by m fin) p)
+        ap (run t room bs) (sym k) ∙ stays (n - (i + 1)) (i + 1) e.place fin e.fault (turn ∙ ap (λ m. left_after m fin) p)
 
 module _ {I : Type 0} (t : Ghosts I) (room : ℕ) where
   entered_back : (os : List (Operation I)) (x op : Operation I) (r : Result ℕ SheetFault) → enter_answer t.number room os x ≡ r → if_entered x r ≡ Ok op →
@@ -93,7 +93,7 @@ module _ {I : Type 0} (t : Ghosts I) (room : ℕ) where
       (ap (λ o. Ok o) p.0, p.1)
   decoded_back os op (Err f) e = absurd cc
 
-  after_back : (os fin : List (Operation I)) (i : ℕ) (r : Result (Operation I) EntryFault) → after os i r ≡ going fin →
+  after_back : (os fin : List (Operation I)) (i : ℕ) (r : Result (Operation I) EntryFault) → after_record os i r ≡ going fin →
       (op : Operation I) × (r ≡ Ok op) × (fin ≡ os ++ op ∷ [])
   after_back os fin i (Ok op) e = (op, refl, cc)
   after_back os fin i (Err f) e = absurd cc
@@ -106,7 +106,7 @@ module _ {I : Type 0} (t : Ghosts I) (law : Lawful t) (room : ℕ) (bs : List �
     pub bytes : take (24 * n) (drop 8 bs) ≡ flat_map (encode_record t) os
 
   took_more : (n : ℕ) (os fin : List (Operation I)) → Bytes bs → 8 + 24 * suc n ≤ length bs → Took n os →
-      after os n (taken t room os (record_at n bs)) ≡ going fin → Took (suc n) fin
+      after_record os n (taken t room os (record_at n bs)) ≡ going fin → Took (suc n) fin
   took_more n os fin b l k e =
       let a = after_back t room os fin n (taken t room os (record_at n bs)) e in
       let op = a.0 in
@@ -155,7 +155,7 @@ module _ {I : Type 0} (t : Ghosts I) (law : Lawful t) (room : ℕ) (bs : List �
       ap (λ z. if_decoded t room pre (decode_record t z)) r ∙ ap (if_decoded t room pre) (record_there t law op f.0)
       ∙ ap (if_entered op) f.1 in
       let s : run t room bs (length pre + 1) ≡ going (pre ++ op ∷ []) =
-      one_more t room bs (length pre) pre (record_at (length pre) bs) (going (pre ++ op ∷ [])) p refl (ap (after pre (length pre)) k) in
+      one_more t room bs (length pre) pre (record_at (length pre) bs) (going (pre ++ op ∷ [])) p refl (ap (after_record pre (length pre)) k) in
       let lq = length_push pre op in
       let e₂ : bs ≡ head ++ (flat_map enc (pre ++ op ∷ []) ++ (flat_map enc ops ++ rest)) =
       e ∙ ap (λ z. head ++ z) (simp append_assoc) ∙ ap (λ z. head ++ (z ++ tail)) (flat_map_more enc [] pre op) in

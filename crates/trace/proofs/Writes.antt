@@ -29,20 +29,20 @@ grow front mem out out' part at w to l e f g =
     f ∙ ap (λ p. p ++ part ++ drop (at + w) out) a ∙ ap (λ q. front ++ part ++ q) d ∙ ap (λ k. front ++ part ++ drop k mem) g
 
 module _ {X : Type 0} (f : X → List ℕ) (w p : ℕ) (mem : List ℕ) (xs : List X) where
-  -- rows laid one after another, as far as the first i
-  pub record Laid (out : List ℕ) (i : ℕ) : Type 0 where
+  -- rows written one after another, as far as the first i
+  pub record RowsWritten (out : List ℕ) (i : ℕ) : Type 0 where
     pub long : length (flat_map f (take i xs)) ≡ w * i
     pub bytes : out ≡ take p mem ++ flat_map f (take i xs) ++ drop (p + w * i) mem
 
   -- none yet, one more, and all
-  pub laid_none : p ≤ length mem → Laid mem 0
-  laid_none h =
+  pub written_none : p ≤ length mem → RowsWritten mem 0
+  written_none h =
       let e : p + w * 0 ≡ p = let z = mul-zero w in omega arith in
       record { long = sym (mul-zero w); bytes = rw (e, append-nil) (sym (take-append-drop p mem)) }
 
-  pub laid_more : (out out' part : List ℕ) (i : ℕ) (x : X) → p ≤ length mem → i < length xs → x ≡ get_or xs i x → part ≡ f x → length part ≡ w →
-      Laid out i → out' ≡ take (p + w * i) out ++ part ++ drop (p + w * i + length part) out → Laid out' (i + 1)
-  laid_more out out' part i x h l e g v o n =
+  pub written_more : (out out' part : List ℕ) (i : ℕ) (x : X) → p ≤ length mem → i < length xs → x ≡ get_or xs i x → part ≡ f x → length part ≡ w →
+      RowsWritten out i → out' ≡ take (p + w * i) out ++ part ++ drop (p + w * i + length part) out → RowsWritten out' (i + 1)
+  written_more out out' part i x h l e g v o n =
       let a = length-take-le p mem h in
       let b = o.long in
       let m = ap (λ k. w * k) (add-one i) ∙ mul-suc w i in
@@ -57,8 +57,8 @@ module _ {X : Type 0} (f : X → List ℕ) (w p : ℕ) (mem : List ℕ) (xs : Li
             ∙ ap (λ z. z ++ drop (p + w * (i + 1)) mem) (append_assoc (take p mem) (flat_map f (take i xs)) (f x) ∙ ap (λ z. take p mem ++ z) (sym more));
       }
 
-  pub laid_all : (out : List ℕ) (i : ℕ) → i ≡ length xs → Laid out i → out ≡ take p mem ++ flat_map f xs ++ drop (p + w * length xs) mem
-  laid_all out i e o = o.bytes ∙ ap (λ z. take p mem ++ flat_map f z ++ drop (p + w * i) mem) (take_all i xs (omega arith)) ∙ ap (λ k. take p mem ++ flat_map f xs ++ drop (p + w * k) mem) e
+  pub written_all : (out : List ℕ) (i : ℕ) → i ≡ length xs → RowsWritten out i → out ≡ take p mem ++ flat_map f xs ++ drop (p + w * length xs) mem
+  written_all out i e o = o.bytes ∙ ap (λ z. take p mem ++ flat_map f z ++ drop (p + w * i) mem) (take_all i xs (omega arith)) ∙ ap (λ k. take p mem ++ flat_map f xs ++ drop (p + w * k) mem) e
 
 -- the three parts of a trace
 pub whole : {I : Type 0} (t : Ghosts I) (code kind k : ℕ) (ops : List (Operation I)) (order head mem o₁ o₂ o₃ : List ℕ) → code ≡ t.TYPE → length order ≡ length ops →

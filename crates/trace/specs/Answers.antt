@@ -24,25 +24,25 @@ module _ {I : Type 0} where
   saying_of c = record { kind = c.kind; k = c.k; order = c.order }
 
   -- what reading answers
-  abbrev pub answered : Outcome I → Result Said ReadFault
-  answered (unread e) = Err (Frame e)
-  answered (refused os i e) = Err (Entry (record { place = i; fault = e }))
-  answered (accepted c) = Ok (saying_of c)
+  abbrev pub read_answer : Outcome I → Result Said ReadFault
+  read_answer (unread e) = Err (Frame e)
+  read_answer (refused os i e) = Err (Entry (record { place = i; fault = e }))
+  read_answer (accepted c) = Ok (saying_of c)
 
   -- what the sheet then holds, if it held old
-  abbrev pub held : List (Operation I) → Outcome I → List (Operation I)
-  held old (unread e) = old
-  held old (refused os i e) = os
-  held old (accepted c) = c.ops
+  abbrev pub sheet_after : List (Operation I) → Outcome I → List (Operation I)
+  sheet_after old (unread e) = old
+  sheet_after old (refused os i e) = os
+  sheet_after old (accepted c) = c.ops
 
   -- the run that an answer for one record, or for all, and the operations then entered stand for
   abbrev pub left_at : ℕ → Result (Unit {0}) EntryFault → List (Operation I) → Run I
   left_at i (Ok u) os = going os
   left_at i (Err e) os = stopped os i e
 
-  abbrev pub left_by : Result (Unit {0}) RefusedRecord → List (Operation I) → Run I
-  left_by (Ok u) os = going os
-  left_by (Err r) os = stopped os r.place r.fault
+  abbrev pub left_after : Result (Unit {0}) RefusedRecord → List (Operation I) → Run I
+  left_after (Ok u) os = going os
+  left_after (Err r) os = stopped os r.place r.fault
 
 abbrev pub said : Accepted → Said
 said a = record { kind = kind_number a.kind; k = a.k; order = order_of a.order }

@@ -32,9 +32,9 @@ module _ {I : Type 0} where
   if_entered op (Ok number) = Ok op
   if_entered op (Err e) = Err (Sheet e)
 
-  abbrev pub after : List (Operation I) → ℕ → Result (Operation I) EntryFault → Run I
-  after os i (Ok op) = going (os ++ op ∷ [])
-  after os i (Err e) = stopped os i e
+  abbrev pub after_record : List (Operation I) → ℕ → Result (Operation I) EntryFault → Run I
+  after_record os i (Ok op) = going (os ++ op ∷ [])
+  after_record os i (Err e) = stopped os i e
 
   abbrev pub ended : Header → List ℕ → Run I → Outcome I
   ended h bs (going os) = accepted (contents (kind_number h.kind) h.k os (numbers_of h.count (drop (8 + 24 * h.count) bs)))
@@ -50,7 +50,7 @@ module _ {I : Type 0} (t : Ghosts I) (room : ℕ) where
   taken os rec = if_decoded os (decode_record t rec)
 
   abbrev pub next : List ℕ → ℕ → Run I → Run I
-  next bs i (going os) = after os i (taken os (record_at i bs))
+  next bs i (going os) = after_record os i (taken os (record_at i bs))
   next bs i (stopped os j e) = stopped os j e
 
   -- taking the first n records of a trace in turn

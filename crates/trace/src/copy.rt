@@ -1,9 +1,9 @@
-ghost use Rattle.std.specs.Prelude.{◌≡◌, ℕ, ◌≤◌, ◌++◌, length, take, drop, IfOk, MatchResult};
+ghost use Rattle.std.specs.Prelude.{◌≡◌, ℕ, ◌≤◌, length, take, IfOk, MatchResult};
 ghost use Rattle.sheet.specs.Sheets.{entered, room, SameLoan};
 ghost use Rattle.trace.specs.Contents.{Sound};
 ghost use Rattle.trace.specs.Reading.{reading};
 ghost use Rattle.trace.specs.Reading.Outcome.{accepted};
-ghost use Rattle.trace.specs.Answers.{held, contents_of};
+ghost use Rattle.trace.specs.Answers.{sheet_after, contents_of};
 ghost use Rattle.trace.specs.Copying.{copying, Copied};
 
 use crate::fault::CopyFault;
@@ -21,9 +21,9 @@ pub fn copy<'a, I: Item>(
     out: &mut [u8],
 ) -> Result<Accepted<'a>, CopyFault>
     ensures answer { Copied result (copying (length out.old) (reading I.Item (room sheet.old) bytes.now)) }
-    ensures entered { entered sheet.new ≡ held (entered sheet.old) (reading I.Item (room sheet.old) bytes.now) }
+    ensures entered { entered sheet.new ≡ sheet_after (entered sheet.old) (reading I.Item (room sheet.old) bytes.now) }
     ensures loan { SameLoan sheet.old sheet.new }
-    ensures written_back_is_its_own_bytes { MatchResult result (λ _. out.new ≡ bytes.now ++ drop (length bytes.now) out.old) (λ _. out.new ≡ out.old) }
+    ensures written_back_is_its_own_bytes { MatchResult result (λ _. out.new ≡ over bytes.now out.old) (λ _. out.new ≡ out.old) }
     ensures written_reads_as_what_went_in { IfOk result (λ a. (n : ℕ) → length (entered sheet.new) ≤ n → reading I.Item n (take (length bytes.now) out.new) ≡ accepted (contents_of a (entered sheet.new))) }
     ensures accepted_is_sound { IfOk result (λ a. Sound I.Item (room sheet.old) (contents_of a (entered sheet.new))) }
 {

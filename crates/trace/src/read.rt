@@ -2,8 +2,8 @@ ghost use Rattle.std.specs.Prelude.{◌≡◌, ℕ, ◌+◌, ◌*◌, ◌≤◌,
 ghost use Rattle.sheet.specs.Sheets.{entered, room, SameLoan};
 ghost use Rattle.frame.specs.Layout.{record_count};
 ghost use Rattle.trace.specs.Contents.{Contents, Sound, encode};
-ghost use Rattle.trace.specs.Reading.{after, taken, run, reading};
-ghost use Rattle.trace.specs.Answers.{answered, held, left_at, left_by, shown, saying_of, contents_of};
+ghost use Rattle.trace.specs.Reading.{after_record, taken, run, reading};
+ghost use Rattle.trace.specs.Answers.{read_answer, sheet_after, left_at, left_after, shown, saying_of, contents_of};
 
 use crate::fault::{EntryFault, ReadFault, RefusedRecord};
 use frame::header::read_header;
@@ -27,7 +27,7 @@ pub struct Accepted<'a> {
 // Enters the operation that a record says.
 // Kept (no plainer): SameLoan relates a sheet before and after, which no type can hold.
 fn take_record<I: Item>(rec: &[u8], sheet: &mut Sheet<I>) -> Result<(), EntryFault>
-    ensures step { (i : ℕ) → after (entered sheet.old) i (taken I.Item (room sheet.old) (entered sheet.old) rec.now) ≡ left_at i result (entered sheet.new) }
+    ensures step { (i : ℕ) → after_record (entered sheet.old) i (taken I.Item (room sheet.old) (entered sheet.old) rec.now) ≡ left_at i result (entered sheet.new) }
     ensures grows { length (entered sheet.old) ≤ length (entered sheet.new) }
     ensures loan { SameLoan sheet.old sheet.new }
 {
@@ -40,7 +40,7 @@ fn take_record<I: Item>(rec: &[u8], sheet: &mut Sheet<I>) -> Result<(), EntryFau
 fn take_all<I: Item>(trace: &Trace, sheet: &mut Sheet<I>) -> Result<(), RefusedRecord>
     requires few { record_count trace.now.bytes.now ≤ 1024 }
     requires empty { entered sheet.old ≡ [] }
-    ensures run { run I.Item (room sheet.old) trace.now.bytes.now (record_count trace.now.bytes.now) ≡ left_by result (entered sheet.new) }
+    ensures run { run I.Item (room sheet.old) trace.now.bytes.now (record_count trace.now.bytes.now) ≡ left_after result (entered sheet.new) }
     ensures loan { SameLoan sheet.old sheet.new }
 {
     for (place, rec) in trace.records().iter().enumerate() {
@@ -52,8 +52,8 @@ fn take_all<I: Item>(trace: &Trace, sheet: &mut Sheet<I>) -> Result<(), RefusedR
 
 // Reads a trace onto a sheet. A refused header leaves the sheet as it was; a refused record leaves the earlier ones entered.
 pub fn read<'a, I: Item>(bytes: &'a [u8], sheet: &mut Sheet<I>) -> Result<Accepted<'a>, ReadFault>
-    ensures answer { shown result ≡ answered (reading I.Item (room sheet.old) bytes.now) }
-    ensures entered { entered sheet.new ≡ held (entered sheet.old) (reading I.Item (room sheet.old) bytes.now) }
+    ensures answer { shown result ≡ read_answer (reading I.Item (room sheet.old) bytes.now) }
+    ensures entered { entered sheet.new ≡ sheet_after (entered sheet.old) (reading I.Item (room sheet.old) bytes.now) }
     ensures loan { SameLoan sheet.old sheet.new }
     ensures accepted_is_sound { IfOk result (λ a. Sound I.Item (room sheet.old) (contents_of a (entered sheet.new))) }
     ensures accepted_is_encoded { IfOk result (λ a. bytes.now ≡ encode I.Item (contents_of a (entered sheet.new))) }

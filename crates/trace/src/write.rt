@@ -1,12 +1,12 @@
-ghost use Rattle.std.specs.Prelude.{◌≡◌, ℕ, ◌+◌, ◌*◌, ◌≤◌, ◌++◌, length, take, drop, is_ok, if◌then◌else◌, OnOk};
+ghost use Rattle.std.specs.Prelude.{◌≡◌, ℕ, ◌+◌, ◌*◌, ◌≤◌, ◌++◌, length, take, drop, OnOk};
 ghost use Rattle.std.specs.List.{flat_map, AllByRecursion};
 ghost use Rattle.sheet.specs.Sheets.{entered};
 ghost use Rattle.frame.specs.Headers.{bytes_of_header};
 ghost use Rattle.frame.specs.Kinds.{kind_number};
-ghost use Rattle.trace.specs.Contents.{contents, encode};
+ghost use Rattle.trace.specs.Contents.{contents};
 ghost use Rattle.trace.specs.Reading.{reading};
 ghost use Rattle.trace.specs.Reading.Outcome.{accepted};
-ghost use Rattle.trace.specs.Writing.{writing};
+ghost use Rattle.trace.specs.Writing.{write_answer, memory_after};
 
 use crate::fault::WriteFault;
 use crate::row::Row;
@@ -31,7 +31,7 @@ fn header_bytes(item_type: u8, kind: Kind, count: u16, k: u16) -> HeaderBytes
 }
 
 // Writes the part over the bytes from `at` on.
-fn paste(out: &mut [u8], at: usize, part: &[u8])
+fn write_part(out: &mut [u8], at: usize, part: &[u8])
     requires { at + length part.now ≤ length out.old }
     ensures { out.new ≡ take at out.old ++ part.now ++ drop (at + length part.now) out.old }
 {
@@ -46,7 +46,7 @@ fn put_rows<T: Row<W>, const W: usize>(out: &mut [u8], at: usize, rows: &[T])
 {
     // Kept (proof): chunks_exact_mut and zip ask for a W above 0, and after them no fact says which bytes were written.
     for (i, row) in rows.iter().enumerate() {
-        paste(out, at + W * i, &row.row());
+        write_part(out, at + W * i, &row.row());
     }
 }
 
@@ -58,8 +58,8 @@ pub(crate) fn write_of_kind<I: Item>(
     order: &[u16],
     out: &mut [u8],
 ) -> Result<(), WriteFault>
-    ensures answer { result ≡ writing (kind_number kind) (length (entered sheet.now)) (length order.now) (length out.old) }
-    ensures bytes { out.new ≡ (if is_ok result then encode I.Item (contents (kind_number kind) k (entered sheet.now) order.now) ++ drop (8 + 26 * length (entered sheet.now)) out.old else out.old) }
+    ensures answer { result ≡ write_answer (kind_number kind) (length (entered sheet.now)) (length order.now) (length out.old) }
+    ensures bytes { out.new ≡ memory_after I.Item (kind_number kind) k (entered sheet.now) order.now out.old }
     ensures reads_as_what_went_in { OnOk result ((room : ℕ) → length (entered sheet.now) ≤ room → reading I.Item room (take (8 + 26 * length (entered sheet.now)) out.new) ≡ accepted (contents (kind_number kind) k (entered sheet.now) order.now)) }
 {
     let ops = sheet.all();
@@ -69,7 +69,7 @@ pub(crate) fn write_of_kind<I: Item>(
     if out.len() < HEADER_LEN + OPERATION_LEN * ops.len() {
         return Err(WriteFault::Memory);
     }
-    paste(out, 0, &header_bytes(I::TYPE, kind, ops.len() as u16, k));
+    write_part(out, 0, &header_bytes(I::TYPE, kind, ops.len() as u16, k));
     put_rows::<_, RECORD_LEN>(out, HEADER_LEN, ops);
     put_rows::<_, 2>(out, HEADER_LEN + RECORD_LEN * ops.len(), order);
     Ok(())
@@ -84,8 +84,8 @@ pub fn write<I: Item>(
     order: &[u16],
     out: &mut [u8],
 ) -> Result<(), WriteFault>
-    ensures answer { result ≡ writing kind (length (entered sheet.now)) (length order.now) (length out.old) }
-    ensures bytes { out.new ≡ (if is_ok result then encode I.Item (contents kind k (entered sheet.now) order.now) ++ drop (8 + 26 * length (entered sheet.now)) out.old else out.old) }
+    ensures answer { result ≡ write_answer kind (length (entered sheet.now)) (length order.now) (length out.old) }
+    ensures bytes { out.new ≡ memory_after I.Item kind k (entered sheet.now) order.now out.old }
     ensures reads_as_what_went_in { OnOk result ((room : ℕ) → length (entered sheet.now) ≤ room → reading I.Item room (take (8 + 26 * length (entered sheet.now)) out.new) ≡ accepted (contents kind k (entered sheet.now) order.now)) }
 {
     let kind = Kind::try_from(kind).map_err(|_| WriteFault::Kind)?;

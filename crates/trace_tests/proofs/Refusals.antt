@@ -5,13 +5,13 @@ use Rattle.std.specs.Result.{result_err}
 use Rattle.trace.specs.declared.fault.ReadFault.{ReadFault}
 use Rattle.trace.specs.declared.fault.ReadFault.TheVariants.{Frame, Entry}
 use Rattle.trace.specs.declared.read.Accepted.{Accepted}
-use Rattle.trace.specs.Answers.{answered, shown}
+use Rattle.trace.specs.Answers.{read_answer, shown}
 use Rattle.trace.specs.Faults.{read_refusal}
 use Rattle.trace.specs.Reading.{Outcome}
 use Rattle.trace.specs.Reading.Outcome.{unread, refused, accepted}
 use Rattle.trace_tests.specs.Cases.{refusal_in}
 
-pub refusal_is : {I : Type 0} (r : Result Accepted ReadFault) (o : Outcome I) → shown r ≡ answered o → option_map read_refusal (result_err r) ≡ refusal_in o
+pub refusal_is : {I : Type 0} (r : Result Accepted ReadFault) (o : Outcome I) → shown r ≡ read_answer o → option_map read_refusal (result_err r) ≡ refusal_in o
 refusal_is (Ok a) (unread e) p = absurd cc
 refusal_is (Ok a) (refused os i e) p = absurd cc
 refusal_is (Ok a) (accepted c) p = refl

@@ -1,13 +1,11 @@
 -- What a holder answers to a list of calls, by its seat rule alone. Assumes nothing.
-use Rattle.std.specs.Prelude.{◌≡◌, ℕ, ◌+◌, cond, List, [], ◌∷◌, length, Option, Some, None, is_ok, Ok, Err, Result}
-use Rattle.std.specs.List.{insert}
-use Rattle.giving.specs.Lists.{without}
+use Rattle.std.specs.Prelude.{◌≡◌, ℕ, List, [], ◌∷◌, length, Option, Some, None, Ok, Err, Result}
 use Rattle.turns.specs.declared.calls.HolderCall.{HolderCall}
 use Rattle.turns.specs.declared.calls.HolderCall.TheVariants.{Clear, Count, Rank, At, Add, Take}
 use Rattle.turns.specs.declared.calls.HolderTurn.{HolderTurn}
 use Rattle.holder.specs.declared.fault.HolderFault.{HolderFault}
 use Rattle.holder.specs.Answers.{add_answer, rank_answer, at_answer, take_answer}
-use Rattle.holder.specs.Meanings.{Meaning, meaning}
+use Rattle.holder.specs.Meanings.{Meaning, meaning, after_add, after_take}
 
 -- the answer of a call that answers nothing but a refusal
 abbrev pub done_answer : Result (Unit {0}) HolderFault → Result (Option ℕ) HolderFault
@@ -20,17 +18,13 @@ number_answer (Ok v) = Ok (Some v)
 number_answer (Err f) = Err f
 
 -- the answer to a call
-abbrev pub answer_for : Meaning → HolderCall → Result (Option ℕ) HolderFault
-answer_for m Clear = Ok None
-answer_for m Count = Ok (Some (length m.list))
-answer_for m (Rank c) = number_answer (rank_answer m.list c)
-answer_for m (At p) = number_answer (at_answer m.list p)
-answer_for m (Add c) = done_answer (add_answer m.list m.count c)
-answer_for m (Take c) = done_answer (take_answer m.list c)
-
--- a code that is added goes in at its seat
-abbrev pub grown : (List ℕ → ℕ → ℕ) → Meaning → ℕ → Meaning
-grown seat m c = meaning (insert m.list (seat m.list c) c) (m.count + 1)
+abbrev pub call_answer : Meaning → HolderCall → Result (Option ℕ) HolderFault
+call_answer m Clear = Ok None
+call_answer m Count = Ok (Some (length m.list))
+call_answer m (Rank c) = number_answer (rank_answer m.list c)
+call_answer m (At p) = number_answer (at_answer m.list p)
+call_answer m (Add c) = done_answer (add_answer m.list m.count c)
+call_answer m (Take c) = done_answer (take_answer m.list c)
 
 -- what the holder stands for after a call
 abbrev pub after : (List ℕ → ℕ → ℕ) → Meaning → HolderCall → Meaning
@@ -38,8 +32,8 @@ after seat m Clear = meaning [] 0
 after seat m Count = m
 after seat m (Rank c) = m
 after seat m (At p) = m
-after seat m (Add c) = cond (is_ok (add_answer m.list m.count c)) (grown seat m c) m
-after seat m (Take c) = meaning (without c m.list) m.count
+after seat m (Add c) = after_add seat m c
+after seat m (Take c) = after_take m c
 
 -- and after all the calls
 abbrev pub after_all : (List ℕ → ℕ → ℕ) → Meaning → List HolderTurn → Meaning
@@ -49,9 +43,9 @@ after_all seat m (t ∷ ts) = after_all seat (after seat m t.call) ts
 -- the calls with their answers written beside them
 abbrev pub answered : (List ℕ → ℕ → ℕ) → Meaning → List HolderTurn → List HolderTurn
 answered seat m [] = []
-answered seat m (t ∷ ts) = record { call = t.call; answer = answer_for m t.call } ∷ answered seat (after seat m t.call) ts
+answered seat m (t ∷ ts) = record { call = t.call; answer = call_answer m t.call } ∷ answered seat (after seat m t.call) ts
 
 -- the answers written beside the calls are the right ones
 abbrev pub Answered : (List ℕ → ℕ → ℕ) → Meaning → List HolderTurn → Type 0
 Answered seat m [] = Unit {0}
-Answered seat m (t ∷ ts) = (t.answer ≡ answer_for m t.call) × Answered seat (after seat m t.call) ts
+Answered seat m (t ∷ ts) = (t.answer ≡ call_answer m t.call) × Answered seat (after seat m t.call) ts

@@ -1,7 +1,7 @@
 // A holder driven through a list of calls.
 ghost use Rattle.std.specs.Prelude.{◌≡◌, true, []};
 ghost use Rattle.holder.specs.Meanings.{meaning};
-ghost use Rattle.turns.specs.Calls.{answer_for, after, answered, after_all, Answered};
+ghost use Rattle.turns.specs.Calls.{call_answer, after, answered, after_all, Answered};
 ghost use Rattle.turns.specs.Laws.{SameSeat, SameSeatsAnswerAlike};
 
 use holder::fault::HolderFault;
@@ -30,7 +30,7 @@ pub struct HolderTurn {
 
 // Gives a holder one call.
 pub fn answer_to<H: Holder>(holder: &mut H, call: HolderCall) -> HolderAnswer
-    ensures answer { result ≡ answer_for (meaning (H.giving holder.old) (H.adds holder.old)) call }
+    ensures answer { result ≡ call_answer (meaning (H.giving holder.old) (H.adds holder.old)) call }
     ensures left { meaning (H.giving holder.new) (H.adds holder.new) ≡ after H.seat (meaning (H.giving holder.old) (H.adds holder.old)) call }
 {
     match call {

@@ -1,7 +1,7 @@
 // The call that certifies the placed order.
 ghost use Rattle.std.specs.Prelude.{◌≡◌};
 ghost use Rattle.docket.specs.Lent.{held, SameSlices};
-ghost use Rattle.docket.specs.Tied.{certifying, writing};
+ghost use Rattle.docket.specs.Agreed.{certifying, writing};
 
 use crate::buffers::Buffers;
 use crate::docket::Docket;

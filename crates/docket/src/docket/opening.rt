@@ -2,7 +2,7 @@
 ghost use Rattle.std.specs.Prelude.{◌≡◌, []};
 ghost use Rattle.sheet.specs.Sheets.{entered};
 ghost use Rattle.docket.specs.Pairs.{paired_all};
-ghost use Rattle.docket.specs.Tied.{Tied, ops_in, steps_in, bound_in};
+ghost use Rattle.docket.specs.Agreed.{Agreed, ops_in, steps_in, bound_in};
 
 use crate::docket::Docket;
 use crate::ledger::copying::copied;
@@ -13,7 +13,7 @@ use sheet::sheet::Sheet;
 impl<H: Holder> Docket<H> {
     // A docket of the sheet's operations with the bound k and no step placed. The holder is cleared.
     pub fn open<I: Item>(sheet: &Sheet<I>, mut holder: H, k: u16) -> Docket<H>
-        ensures tied { Tied H.Holder result }
+        ensures agreed { Agreed H.Holder result }
         ensures steps { steps_in result ≡ [] }
         ensures table { ops_in result ≡ paired_all I.Item.number (entered sheet.now) }
         ensures bound { bound_in result ≡ k }

@@ -4,7 +4,7 @@ ghost use Rattle.calls.specs.Faults.{code_of};
 ghost use Rattle.calls.specs.Rules.{joined, lift_answer, lowest, without_last};
 ghost use Rattle.docket.specs.Kept.{entry_of};
 ghost use Rattle.docket.specs.Moves.{rank_found, waits, judged};
-ghost use Rattle.docket.specs.Tied.{ops_in, steps_in, bound_in, placing, running};
+ghost use Rattle.docket.specs.Agreed.{ops_in, steps_in, bound_in, placing, running};
 
 use crate::docket::Docket;
 use crate::docket::parts::{change_latenesses, rank_of, step};
@@ -52,7 +52,7 @@ impl<H: Holder> Docket<H> {
             late.saturating_add(1)
         });
         step(&mut self.holder, operation, deed);
-        self.ledger.mark(operation, rank);
+        self.ledger.add_step(operation, rank);
         Ok(rank)
     }
 
@@ -96,7 +96,7 @@ impl<H: Holder> Docket<H> {
         if self.ledger.placed == 0 {
             return Err(DocketFault::NothingToLift);
         }
-        let last = self.ledger.unmark();
+        let last = self.ledger.remove_last_step();
         self.ledger.replay(&mut self.holder);
         change_latenesses(&self.holder, &mut self.ledger.entries, last.rank, |late| {
             late.saturating_sub(1)

@@ -24,7 +24,7 @@ fn lesser_below(least: &[u64; 2048], place: usize) -> u64
 }
 
 // Writes the end of the operation, and then the places above it, up to 1.
-fn settle(least: &mut [u64; 2048], number: usize, end: u64)
+fn write_upward(least: &mut [u64; 2048], number: usize, end: u64)
     requires long { length least.old ≡ 2048 }
     requires lesser { Lesser least.old }
     requires within { number < 1024 }
@@ -63,7 +63,7 @@ impl Awaited {
         ensures own { end_at self.new.least number ≡ end }
         ensures others { (x : ℕ) → (x ≡ number → ⊥) → end_at self.new.least x ≡ end_at self.old.least x }
     {
-        settle(&mut self.least, number as usize, end);
+        write_upward(&mut self.least, number as usize, end);
     }
 
     // The soonest end.

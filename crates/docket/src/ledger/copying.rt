@@ -3,8 +3,9 @@ ghost use Rattle.std.specs.Prelude.{◌≡◌, ℕ, Some, slice_index_or};
 ghost use Rattle.std.specs.List.{slice_get};
 ghost use Rattle.sheet.specs.Sheets.{entered};
 ghost use Rattle.docket.specs.Pairs.{paired_of, paired_all};
-ghost use Rattle.docket.specs.InStep.{ops_of};
-ghost use Rattle.docket.specs.Kept.{nothing, fresh, entry_of};
+ghost use Rattle.docket.specs.InAgreement.{ops_of};
+ghost use Rattle.order.specs.Steps.{nothing};
+ghost use Rattle.docket.specs.Kept.{fresh, entry_of};
 
 use crate::entry::Entry;
 use crate::ledger::Ledger;

@@ -22,7 +22,7 @@ returns c = record {
       once = named_once;
       instants = (10 ∷ 10 ∷ [], (omega arith, omega arith, omega arith, (omega arith, omega arith, omega arith, tt)));
     };
-    near = (refl, omega arith, (refl, omega arith, tt));
+    within_bound = (refl, omega arith, (refl, omega arith, tt));
   };
   parted_adds = λ seat k. refl;
   queue_not_empty = refl;

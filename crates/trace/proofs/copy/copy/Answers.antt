@@ -1,4 +1,6 @@
-use Rattle.std.proofs.Common.{◌+◌, ◌*◌, ◌++◌, length, take, drop, Ok, sym, ap, ◌∙◌, arith}
+use Rattle.std.proofs.Common.{length, take, Ok, is_ok, sym, ap, ◌∙◌, arith}
+use Rattle.std.proofs.lemmas.Bool.{cond-true}
+use Rattle.giving.specs.Fronts.{over}
 use Rattle.std.proofs.lemmas.Bool.Decides.{nat_tests}
 use Rattle.std.proofs.lemmas.Result.{err_from_is_err_and}
 use Rattle.sheet.specs.Sheets.{entered, room}
@@ -28,11 +30,11 @@ returns-clause-written_back_is_its_own_bytes g c =
     let a = c.in_ok-accepted.accepted in
     let os = entered c.read.new.sheet in
     let mem = c.args.out.now in
-    let long = ap length e.accepted_is_encoded ∙ length_encode g.I.Item (contents_of a os) e.accepted_is_sound.ordered in
     let items = c.as_slice.ensures.value ∙ c.in_ok-order.ensures in
     let same = ap (λ xs. contents (kind_number a.kind) a.k os xs) items in
-    c.in_ok-write_of_kind.ensures.bytes ∙ ap (λ d. encode g.I.Item d ++ drop (8 + 26 * length os) mem) same ∙ ap (λ z. z ++ drop (8 + 26 * length os) mem) (sym e.accepted_is_encoded)
-    ∙ ap (λ m. c.args.bytes.now ++ drop m mem) (sym long)
+    let w = c.in_ok-write_of_kind.ensures in
+    w.bytes ∙ cond-true _ _ mem (ap is_ok (sym w.answer))
+    ∙ ap (λ d. over (encode g.I.Item d) mem) same ∙ ap (λ z. over z mem) (sym e.accepted_is_encoded)
 
 pub returns-clause-answer : goal.returns-clause-answer
 returns-clause-answer g c =

@@ -3,7 +3,7 @@ use Rattle.std.proofs.lemmas.Grind.{common_steps}
 use Rattle.item.proofs.Laws.{lawful}
 use Rattle.record.proofs.Digits.{bytes_of_type}
 use Rattle.sheet.specs.Sheets.{entered, room}
-use Rattle.trace.specs.Answers.{shown, answered, held}
+use Rattle.trace.specs.Answers.{shown, read_answer, sheet_after}
 use Rattle.trace.specs.declared.fault.ReadFault.{ReadFault}
 use Rattle.trace.specs.declared.read.Accepted.{Accepted}
 use Rattle.trace.specs.Reading.{reading}
@@ -14,15 +14,15 @@ pub returns-in_err-header-clause-encoded_sound_is_accepted : goal.returns-in_err
 returns-in_err-header-clause-encoded_sound_is_accepted g c =
     let law = lawful g.met.I.Item in
     let old = entered c.args.sheet.now in
-    let answer : shown c.from_residual.result ≡ answered (reading g.I.Item (room c.args.sheet.now) c.args.bytes.now) = search rules in
-    let same : entered c.args.sheet.now ≡ held (entered c.args.sheet.now) (reading g.I.Item (room c.args.sheet.now) c.args.bytes.now) = search rules in
+    let answer : shown c.from_residual.result ≡ read_answer (reading g.I.Item (room c.args.sheet.now) c.args.bytes.now) = search rules in
+    let same : entered c.args.sheet.now ≡ sheet_after (entered c.args.sheet.now) (reading g.I.Item (room c.args.sheet.now) c.args.bytes.now) = search rules in
     exact_answer g.I.Item law (room c.args.sheet.now) c.args.bytes.now c.from_residual.result old old answer same
 
 pub returns-in_err-take_all-clause-encoded_sound_is_accepted : goal.returns-in_err-take_all-clause-encoded_sound_is_accepted
 returns-in_err-take_all-clause-encoded_sound_is_accepted g c =
     let law = lawful g.met.I.Item in
-    let answer : shown c.from_residual-in_err-take_all.result ≡ answered (reading g.I.Item (room c.args.sheet.now) c.args.bytes.now) = search rules in
-    let same : entered c.take_all.new.sheet ≡ held (entered c.args.sheet.now) (reading g.I.Item (room c.args.sheet.now) c.args.bytes.now) = search rules in
+    let answer : shown c.from_residual-in_err-take_all.result ≡ read_answer (reading g.I.Item (room c.args.sheet.now) c.args.bytes.now) = search rules in
+    let same : entered c.take_all.new.sheet ≡ sheet_after (entered c.args.sheet.now) (reading g.I.Item (room c.args.sheet.now) c.args.bytes.now) = search rules in
     exact_answer g.I.Item law (room c.args.sheet.now) c.args.bytes.now c.from_residual-in_err-take_all.result (entered c.args.sheet.now) (entered c.take_all.new.sheet) answer same
 
 pub returns : goal.returns
@@ -35,9 +35,9 @@ returns g c =
     let old = entered c.args.sheet.now in
     let os = entered c.take_all.new.sheet in
     let r : Result Accepted ReadFault = Ok (record { kind = h.kind; k = h.k; order = c.new-2.result }) in
-    let answer : shown (Ok (record { kind = c.in_ok-header.header.kind; k = c.in_ok-header.header.k; order = c.new-2.result })) ≡ answered (reading g.I.Item (room c.args.sheet.now) c.args.bytes.now) =
+    let answer : shown (Ok (record { kind = c.in_ok-header.header.kind; k = c.in_ok-header.header.k; order = c.new-2.result })) ≡ read_answer (reading g.I.Item (room c.args.sheet.now) c.args.bytes.now) =
     grind (arith, common_steps) in
-    let same : entered c.take_all.new.sheet ≡ held (entered c.args.sheet.now) (reading g.I.Item (room c.args.sheet.now) c.args.bytes.now) = search rules in
+    let same : entered c.take_all.new.sheet ≡ sheet_after (entered c.args.sheet.now) (reading g.I.Item (room c.args.sheet.now) c.args.bytes.now) = search rules in
     record {
       answer = answer;
       entered = same;

@@ -6,7 +6,7 @@ use Rattle.frame.specs.Layout.{record_count}
 use Rattle.frame.proofs.RecordPlaces.{length_records}
 use Rattle.trace.specs.Reading.{run}
 use Rattle.trace.specs.Reading.Run.{going}
-use Rattle.trace.specs.Answers.{left_by}
+use Rattle.trace.specs.Answers.{left_after}
 use Rattle.trace.proofs.Runs.{placed, turn, turned_away}
 use Rattle.trace.proofs.read.take_all.Goals as goal
 
@@ -44,7 +44,7 @@ loop-place-preserved g c =
       taken =
           turn g.I.Item (room c.args.sheet.now) c.args.trace.now.bytes.now c.loop-place.place (room s) c.records-rec-items.result.now (entered s) (entered fin)
           c.take_record.result c.records-rec-items.ensures c.loop-place-test.true v.taken v.loan.room e.step
-          ∙ ap (λ r. left_by r (entered fin)) (sym q ∙ c.in_ok-map_err.was);
+          ∙ ap (λ r. left_after r (entered fin)) (sym q ∙ c.in_ok-map_err.was);
       loan = loan_twice c.args.sheet.now s fin v.loan e.loan e.grows;
     }
 

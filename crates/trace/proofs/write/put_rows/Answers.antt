@@ -2,13 +2,13 @@ use Rattle.std.proofs.Common.{◌≡◌, ◌+◌, ◌≤◌, [], ◌∷◌, ◌+
 use Rattle.std.proofs.lemmas.List.{take_more}
 use Rattle.std.proofs.SliceLists.{all_by_recursion_push}
 use Rattle.std.specs.List.{AllByRecursion}
-use Rattle.trace.proofs.Writes.{laid_none, laid_more, laid_all}
+use Rattle.trace.proofs.Writes.{written_none, written_more, written_all}
 use Rattle.trace.proofs.write.put_rows.Goals as goal
 
 pub loop-i-init : goal.loop-i-init
 loop-i-init g c =
     let inside : c.args.at ≤ length c.args.out.now = omega arith in
-    record { laid = laid_none g.T.Row.bytes g.row.W c.args.at c.args.out.now c.args.rows.now inside; fit = tt }
+    record { written = written_none g.T.Row.bytes g.row.W c.args.at c.args.out.now c.args.rows.now inside; fit = tt }
 
 pub loop-i-preserved : goal.loop-i-preserved
 loop-i-preserved g c =
@@ -20,9 +20,9 @@ loop-i-preserved g c =
     let inside : c.args.at ≤ length c.args.out.now = omega arith in
     let more : take (i + 1) rows ≡ take i rows ++ row ∷ [] = take_more rows i row c.loop-i-test.true ∙ ap (λ y. take i rows ++ y ∷ []) (sym c.index-rows-i.is) in
     record {
-      laid =
-          laid_more g.T.Row.bytes g.row.W c.args.at c.args.out.now rows c.loop-i.out c.paste.new.out c.row.result i row inside c.loop-i-test.true
-          c.index-rows-i.is c.row.ensures.bytes long v.laid c.paste.ensures;
+      written =
+          written_more g.T.Row.bytes g.row.W c.args.at c.args.out.now rows c.loop-i.out c.write_part.new.out c.row.result i row inside c.loop-i-test.true
+          c.index-rows-i.is c.row.ensures.bytes long v.written c.write_part.ensures;
       fit = subst (AllByRecursion g.T.Row.fit) (sym more) (all_by_recursion_push g.T.Row.fit (take i rows) row v.fit c.row.ensures.fit);
     }
 
@@ -31,6 +31,6 @@ returns g c =
     let rows = c.args.rows.now in
     let e : c.loop-i.i ≡ length c.args.rows.now = omega arith in
     record {
-      bytes = laid_all g.T.Row.bytes g.row.W c.args.at c.args.out.now rows c.loop-i.out c.loop-i.i e c.loop-i.invariant.laid;
+      bytes = written_all g.T.Row.bytes g.row.W c.args.at c.args.out.now rows c.loop-i.out c.loop-i.i e c.loop-i.invariant.written;
       fit = subst (AllByRecursion g.T.Row.fit) (take_all c.loop-i.i rows (omega arith)) c.loop-i.invariant.fit;
     }

@@ -2,27 +2,27 @@ use Rattle.std.proofs.Common.{◌<◌, refl, ◌∙◌, arith, rules}
 use Rattle.docket.specs.Moves.{one_less}
 use Rattle.docket.proofs.Table.{flags_kept}
 use Rattle.docket.proofs.Awaiting.{awaits_late}
-use Rattle.docket.proofs.Lifts.{lifted_ops, lifted_in_step}
+use Rattle.docket.proofs.Lifting.{lifted_ops, lifted_agrees}
 use Rattle.docket.proofs.docket.Docket.lift.Goals as goal
 
 pub invariant_of-self : goal.invariant_of-self
 invariant_of-self g c =
-    let u = c.unmark-last.new.self in
+    let u = c.remove_last_step-last.new.self in
     let lowered = c.change_latenesses.ensures one_less (λ n r h. search rules) in
     ((c.change_latenesses.auto.entries ∙ u.full.0, u.full.1), (u.few, (u.known, (u.once, (flags_kept one_less u _ _ lowered, (awaits_late one_less u _ _ lowered, tt))))))
 
 pub invariant_of-self-2 : goal.invariant_of-self-2
 invariant_of-self-2 g c =
     let l = c.args.self.now.ledger in
-    let e = c.unmark-last.ensures in
+    let e = c.remove_last_step-last.ensures in
     let pos : 0 < l.placed = omega (arith, c.if-self-eq0.false) in
     let lowered = c.change_latenesses.ensures one_less (λ n r h. search rules) in
-    record { tied = lifted_in_step g.H.Holder.seat l c.unmark-last.new.self _ pos e.operation e.entries e.steps e.placed e.count _ _ _ _ e.rank lowered refl refl refl c.replay.ensures _ _ c.args.self.now.tied }
+    record { agreed = lifted_agrees g.H.Holder.seat l c.remove_last_step-last.new.self _ pos e.operation e.entries e.steps e.placed e.count _ _ _ _ e.rank lowered refl refl refl c.replay.ensures _ _ c.args.self.now.agreed }
 
 pub returns-clause-table : goal.returns-clause-table
 returns-clause-table g c =
     let l = c.args.self.now.ledger in
-    let e = c.unmark-last.ensures in
+    let e = c.remove_last_step-last.ensures in
     let pos : 0 < l.placed = omega (arith, c.if-self-eq0.false) in
     let lowered = c.change_latenesses.ensures one_less (λ n r h. search rules) in
-    lifted_ops g.H.Holder.seat l c.unmark-last.new.self _ pos e.operation e.entries e.steps e.placed e.count _ _ lowered
+    lifted_ops g.H.Holder.seat l c.remove_last_step-last.new.self _ pos e.operation e.entries e.steps e.placed e.count _ _ lowered

@@ -5,13 +5,13 @@ use Rattle.docket.specs.Moves.{with_late, one_more, with_flag, changed_at, chang
 use Rattle.docket.proofs.Table.{flag_kept, flags_kept}
 use Rattle.docket.proofs.Awaiting.{awaits_late}
 use Rattle.docket.proofs.Turns.{judged_ok}
-use Rattle.docket.proofs.Ties.{judged_is, judged_rank_is, placed_ops, placed_in_step}
+use Rattle.docket.proofs.Placing.{judged_is, judged_rank_is, placed_ops, placed_agrees}
 use Rattle.docket.proofs.docket.Docket.place.Goals as goal
 
 pub returns-in_err-rank-clause-answer : goal.returns-in_err-rank-clause-answer
 returns-in_err-rank-clause-answer g c =
     let p = err_from_is_err_and c.from_residual.result c.from_residual.ensures.1 in
-    rw (p.1, p.2) (c.in_err-rank.ensures ∙ judged_is g.H.Holder.seat c.args.self.now.ledger _ _ c.args.operation c.args.self.now.tied)
+    rw (p.1, p.2) (c.in_err-rank.ensures ∙ judged_is g.H.Holder.seat c.args.self.now.ledger _ _ c.args.operation c.args.self.now.agreed)
 
 pub bounds-self-operation : goal.bounds-self-operation
 bounds-self-operation g c = let o = judged_ok _ _ _ _ _ _ _ c.in_ok-rank.rank c.in_ok-rank.ensures in omega (arith, o.0)
@@ -22,8 +22,8 @@ invariant_of-self g c =
     let raised = c.change_latenesses.ensures one_more (λ n r h. search rules) in
     ((c.change_latenesses.auto.entries ∙ l.full.0, l.full.1), (l.few, (l.known, (l.once, (flags_kept one_more l _ _ raised, (awaits_late one_more l _ _ raised, tt))))))
 
-pub mark-requires : goal.mark-requires
-mark-requires g c =
+pub add_step-requires : goal.add_step-requires
+add_step-requires g c =
     let l = c.args.self.now.ledger in
     let o = judged_ok _ _ _ _ _ _ _ c.in_ok-rank.rank c.in_ok-rank.ensures in
     let raised = c.change_latenesses.ensures one_more (λ n r h. search rules) in
@@ -32,28 +32,28 @@ mark-requires g c =
 pub invariant_of-self-2 : goal.invariant_of-self-2
 invariant_of-self-2 g c =
     let l = c.args.self.now.ledger in
-    let m = c.mark.new.self in
+    let m = c.add_step.new.self in
     let L = g.H.Holder.giving c.args.self.now.holder in
     let x = c.args.operation in
     let r = c.in_ok-rank.rank in
     let o = judged_ok _ _ _ _ _ _ _ r c.in_ok-rank.ensures in
     let raised = c.change_latenesses.ensures one_more (λ n r h. search rules) in
-    let es : m.entries ≡ changed_at (with_flag true) (changed_all (with_late one_more) l.entries (take r L)) x = c.mark.ensures.entries ∙ ap (λ (v : List Entry). changed_at (with_flag true) v x) raised in
-    let e = c.mark.ensures in
-    record { tied = placed_in_step g.H.Holder.seat l m L x r o.0 o.1 es e.steps e.ranks e.placed e.count _ _ _ c.args.self.now.tied (judged_rank_is _ _ _ _ _ _ _ L r o.0 o.1 c.in_ok-rank.ensures) c.step.ensures }
+    let es : m.entries ≡ changed_at (with_flag true) (changed_all (with_late one_more) l.entries (take r L)) x = c.add_step.ensures.entries ∙ ap (λ (v : List Entry). changed_at (with_flag true) v x) raised in
+    let e = c.add_step.ensures in
+    record { agreed = placed_agrees g.H.Holder.seat l m L x r o.0 o.1 es e.steps e.ranks e.placed e.count _ _ _ c.args.self.now.agreed (judged_rank_is _ _ _ _ _ _ _ L r o.0 o.1 c.in_ok-rank.ensures) c.step.ensures }
 
 pub returns-clause-answer : goal.returns-clause-answer
-returns-clause-answer g c = c.in_ok-rank.ensures ∙ judged_is g.H.Holder.seat c.args.self.now.ledger _ _ c.args.operation c.args.self.now.tied
+returns-clause-answer g c = c.in_ok-rank.ensures ∙ judged_is g.H.Holder.seat c.args.self.now.ledger _ _ c.args.operation c.args.self.now.agreed
 
 pub returns-clause-table : goal.returns-clause-table
 returns-clause-table g c =
     let l = c.args.self.now.ledger in
-    let m = c.mark.new.self in
+    let m = c.add_step.new.self in
     let L = g.H.Holder.giving c.args.self.now.holder in
     let x = c.args.operation in
     let r = c.in_ok-rank.rank in
     let o = judged_ok _ _ _ _ _ _ _ r c.in_ok-rank.ensures in
     let raised = c.change_latenesses.ensures one_more (λ n r h. search rules) in
-    let es : m.entries ≡ changed_at (with_flag true) (changed_all (with_late one_more) l.entries (take r L)) x = c.mark.ensures.entries ∙ ap (λ (v : List Entry). changed_at (with_flag true) v x) raised in
-    let e = c.mark.ensures in
+    let es : m.entries ≡ changed_at (with_flag true) (changed_all (with_late one_more) l.entries (take r L)) x = c.add_step.ensures.entries ∙ ap (λ (v : List Entry). changed_at (with_flag true) v x) raised in
+    let e = c.add_step.ensures in
     placed_ops g.H.Holder.seat l m L x r o.0 o.1 es e.steps e.ranks e.placed e.count

@@ -1,6 +1,6 @@
 use Rattle.std.proofs.Common.{◌≡◌, ◌+◌, length, drop}
 use Rattle.calls.specs.Rules.{run_of}
-use Rattle.docket.specs.InStep.{ops_of, steps_of}
+use Rattle.docket.specs.InAgreement.{ops_of, steps_of}
 use Rattle.docket.proofs.docket.Docket.place_all.Given as goal
 
 abbrev pub invariant-loop-placed : goal.invariant-loop-placed

@@ -1,6 +1,6 @@
 use Rattle.std.proofs.Common.{◌≡◌, not, ◌∙◌, rules}
 use Rattle.docket.specs.declared.entry.Entry.{Entry}
-use Rattle.docket.proofs.Ties.{lowest_in_table}
+use Rattle.docket.proofs.Placing.{lowest_in_table}
 use Rattle.docket.proofs.ledger.Ledger.missing.Goals as goal
 
 pub returns : goal.returns

@@ -3,8 +3,8 @@ use Rattle.std.proofs.lemmas.List.{at_drop_more, at_drop_all}
 use Rattle.order.specs.Steps.{SeatRule}
 use Rattle.docket.specs.declared.ledger.Ledger.{Ledger}
 use Rattle.docket.specs.Kept.{entry_of}
-use Rattle.docket.specs.InStep.{steps_of}
-use Rattle.docket.proofs.Ties.{long_steps, order_at, order_known}
+use Rattle.docket.specs.InAgreement.{steps_of}
+use Rattle.docket.proofs.Placing.{long_steps, order_at, order_known}
 use Rattle.holder.specs.Meanings.{Meaning}
 use Rattle.docket.specs.Moves.{stepped, replayed}
 use Rattle.docket.proofs.ledger.Ledger.replay.Goals as goal

@@ -1,5 +1,5 @@
 use Rattle.std.proofs.Common.{◌≡◌, [], drop}
-use Rattle.docket.specs.InStep.{steps_of}
+use Rattle.docket.specs.InAgreement.{steps_of}
 use Rattle.docket.specs.Moves.{replayed}
 use Rattle.docket.proofs.ledger.Ledger.replay.Given as goal
 

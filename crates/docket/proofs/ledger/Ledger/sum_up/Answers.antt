@@ -1,7 +1,7 @@
 use Rattle.std.proofs.Common.{ℕ, ap, ◌∙◌}
-use Rattle.docket.specs.InStep.{summed_up}
+use Rattle.calls.specs.Rules.{summed_up}
 use Rattle.docket.proofs.Sums.{summed}
-use Rattle.docket.proofs.Ties.{order_ranks}
+use Rattle.docket.proofs.Placing.{order_ranks}
 use Rattle.docket.proofs.ledger.Ledger.sum_up.Goals as goal
 
 pub returns : goal.returns

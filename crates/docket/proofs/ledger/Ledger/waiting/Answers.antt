@@ -1,7 +1,7 @@
 use Rattle.std.proofs.Common.{◌≡◌, not, ◌&&◌, ltb, ◌∙◌, arith, rules}
 use Rattle.docket.specs.declared.entry.Entry.{Entry}
 use Rattle.docket.proofs.Awaiting.{none_ended}
-use Rattle.docket.proofs.Ties.{lowest_in_table}
+use Rattle.docket.proofs.Placing.{lowest_in_table}
 use Rattle.docket.proofs.ledger.Ledger.waiting.Goals as goal
 
 pub returns : goal.returns

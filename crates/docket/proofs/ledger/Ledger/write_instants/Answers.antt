@@ -3,10 +3,10 @@ use Rattle.std.proofs.lemmas.List.{take_more, length-take-le}
 use Rattle.order.specs.declared.operation.Paired.{Paired}
 use Rattle.order.specs.Steps.{operation}
 use Rattle.docket.specs.Kept.{entry_of}
-use Rattle.docket.specs.InStep.{ops_of, steps_of}
+use Rattle.docket.specs.InAgreement.{ops_of, steps_of}
 use Rattle.order.proofs.Earliest.{length_earliest}
 use Rattle.order.specs.Times.{earliest}
-use Rattle.docket.proofs.Ties.{no_step, long_steps, order_at, order_known, op_is}
+use Rattle.docket.proofs.Placing.{no_step, long_steps, order_at, order_known, op_is}
 use Rattle.docket.proofs.Sums.{over_more, top, top_push, earliest_push}
 use Rattle.docket.proofs.ledger.Ledger.write_instants.Goals as goal
 

@@ -1,6 +1,6 @@
 use Rattle.std.proofs.Common.{◌≡◌, take}
-use Rattle.calls.specs.Rules.{over}
-use Rattle.docket.specs.InStep.{ops_of, steps_of}
+use Rattle.giving.specs.Fronts.{over}
+use Rattle.docket.specs.InAgreement.{ops_of, steps_of}
 use Rattle.order.specs.Times.{earliest}
 use Rattle.docket.proofs.Sums.{top}
 use Rattle.docket.proofs.ledger.Ledger.write_instants.Given as goal

@@ -1,7 +1,7 @@
 use Rattle.std.proofs.Common.{List, ℕ, ap, ◌∙◌, rules}
-use Rattle.calls.specs.Rules.{over}
+use Rattle.giving.specs.Fronts.{over}
 use Rattle.docket.specs.declared.step.Step.{Step}
-use Rattle.docket.proofs.Ties.{order_ranks}
+use Rattle.docket.proofs.Placing.{order_ranks}
 use Rattle.docket.proofs.ledger.Ledger.write_ranks.Goals as goal
 
 pub returns : goal.returns
