@@ -3,6 +3,7 @@ ghost use Rattle.sheet.specs.Sheets.{entered, room, SameLoan};
 ghost use Rattle.trace.specs.Contents.{Sound};
 ghost use Rattle.trace.specs.Reading.{reading};
 ghost use Rattle.trace.specs.Reading.Outcome.{accepted};
+ghost use Rattle.giving.specs.Fronts.{over};
 ghost use Rattle.trace.specs.Answers.{sheet_after, contents_of};
 ghost use Rattle.trace.specs.Copying.{copying, Copied};
 
