@@ -81,7 +81,7 @@ docket_calls bytes = all_calls front_docket_call bytes
 abbrev pub AsksFront : List ℕ → Option (Result Slot AllocError × Bor (List ℕ)) → Type 0
 AsksFront bytes r = IfSome r (λ p. IfOk p.0 (λ slot. IfSome (front_docket_call bytes) (λ q. call_of slot ≡ q.0)))
 
--- from one list of calls to another: the slot that is made asks the first call, and the others are left; none where no call is left
+-- from one list of calls to another: the first call is taken, and a slot that is made asks it; none where no call is left
 abbrev pub TakesFirst : List Call → Option (Result Slot AllocError) → List Call → Type 0
 TakesFirst before r after =
-    MatchOption r ((before ≡ []) × (after ≡ [])) (λ made. (length before ≡ suc (length after)) × IfOk made (λ slot. before ≡ call_of slot ∷ after))
+    MatchOption r ((before ≡ []) × (after ≡ [])) (λ made. (call : Call) × (before ≡ call ∷ after) × IfOk made (λ slot. call_of slot ≡ call))
