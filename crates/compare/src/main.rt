@@ -6,8 +6,8 @@ use comparison::case::answer_case;
 use comparison::cases::Cases;
 use std::io::{Read, Write};
 
-// No file of cases is longer.
-const LIMIT: u64 = 0x400_0000;
+// How many bytes a file of cases has at most; one more shows that a file is longer.
+const LIMIT: usize = 67_108_864;
 
 // Answers the cases that the bytes hold.
 fn answer_all(rt: &HostRuntime, bytes: &[u8]) -> anyhow::Result<()> {
@@ -24,7 +24,12 @@ fn answer_all(rt: &HostRuntime, bytes: &[u8]) -> anyhow::Result<()> {
 
 fn run(rt: &HostRuntime) -> anyhow::Result<()> {
     let mut bytes = Vec::new(rt.alloc());
-    rt.stdin().take(LIMIT).read_to_end(&mut bytes)?;
+    rt.stdin().take(LIMIT as u64 + 1).read_to_end(&mut bytes)?;
+    if bytes.len() > LIMIT {
+        return Err(anyhow!(
+            "the file of cases is longer than 67,108,864 bytes: cut it between two cases, and give each part alone"
+        ));
+    }
     answer_all(rt, bytes.as_slice())
 }
 
