@@ -258,7 +258,8 @@ fn docket_by_type(
 
 // The answer to a case of calls on a docket, or none where it is no such case.
 pub(crate) fn docket_answer(heap: Global, body: &[u8]) -> Result<Option<String>, AllocError>
-    ensures { IfOk result (λ s. option_map string_bytes s ≡ docket_case body.now) }
+    ensures answer { IfOk result (λ s. option_map string_bytes s ≡ docket_case body.now) }
+    ensures no_case { docket_case body.now ≡ None → result ≡ Ok None }
 {
     let k = number_at(body, 1, 2) as u16;
     let length = number_at(body, 3, 4) as usize;

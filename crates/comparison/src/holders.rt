@@ -98,7 +98,8 @@ fn answers_by_kind(heap: Global, kind: Kind, calls: &[u8]) -> Result<String, All
 
 // The answer to a case of calls on a holder, or none where it is no such case.
 pub(crate) fn holder_answer(heap: Global, body: &[u8]) -> Result<Option<String>, AllocError>
-    ensures { IfOk result (λ s. option_map string_bytes s ≡ holder_case body.now) }
+    ensures answer { IfOk result (λ s. option_map string_bytes s ≡ holder_case body.now) }
+    ensures no_case { holder_case body.now ≡ None → result ≡ Ok None }
 {
     let Some((kind, calls)) = body.split_first() else {
         return Ok(None);

@@ -124,7 +124,8 @@ fn readings_by_type(
 
 // The answer to a case of reading twice, or none where it is no such case.
 pub(crate) fn reading_answer(heap: Global, body: &[u8]) -> Result<Option<String>, AllocError>
-    ensures { IfOk result (λ s. option_map string_bytes s ≡ reading_case body.now) }
+    ensures answer { IfOk result (λ s. option_map string_bytes s ≡ reading_case body.now) }
+    ensures no_case { reading_case body.now ≡ None → result ≡ Ok None }
 {
     let room = number_at(body, 0, 2) as usize;
     let length = number_at(body, 2, 4) as usize;
@@ -233,7 +234,8 @@ fn writing_by_type(
 
 // The answer to a case of writing, or none where it is no such case.
 pub(crate) fn writing_answer(heap: Global, body: &[u8]) -> Result<Option<String>, AllocError>
-    ensures { IfOk result (λ s. option_map string_bytes s ≡ writing_case body.now) }
+    ensures answer { IfOk result (λ s. option_map string_bytes s ≡ writing_case body.now) }
+    ensures no_case { writing_case body.now ≡ None → result ≡ Ok None }
 {
     let k = number_at(body, 1, 2) as u16;
     let size = number_at(body, 3, 2) as usize;
