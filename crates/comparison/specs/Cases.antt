@@ -1,5 +1,5 @@
 -- What a case is answered, by its letter and its body: none where it is no such case.
-use Rattle.std.specs.Prelude.{ℕ, ◌+◌, ◌*◌, min, cond, List, [], ◌∷◌, ◌++◌, length, take, drop, replicate, slice_index, is_ok, Some, None, Ok, Err, codes, Option, Result, ◌==◌, nat_lt}
+use Rattle.std.specs.Prelude.{ℕ, ◌+◌, ◌*◌, min, cond, List, [], ◌∷◌, ◌++◌, length, take, drop, replicate, slice_index, Some, None, Ok, Err, codes, Option, Result, ◌==◌, nat_lt}
 use Rattle.std.specs.Int.Digits.{number_from_digits}
 use Rattle.std.specs.List.{flat_map}
 use Rattle.std.specs.Option.{option_map, unwrap_or}
@@ -13,7 +13,6 @@ use Rattle.item.specs.Lanes.{lane_number, lane_named}
 use Rattle.sheet.specs.declared.operation.Operation.{Operation}
 use Rattle.frame.specs.Orders.{numbers_of}
 use Rattle.trace.specs.declared.fault.ReadFault.{ReadFault}
-use Rattle.trace.specs.Contents.{contents, encode}
 use Rattle.trace.specs.Reading.{reading}
 use Rattle.trace.specs.Answers.{Said, read_answer, sheet_after}
 use Rattle.trace.specs.Faults.{read_refusal}
