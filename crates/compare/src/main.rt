@@ -1,35 +1,13 @@
 // Reads a file of cases on standard input, and prints the answer to each on a line of its own.
 #![tactic(auto)]
 
-ghost use Rattle.std.specs.Prelude.{length};
-ghost use Rattle.std.specs.Iterator.{at_most};
-
 use anyhow::anyhow;
 use comparison::case::answer_case;
+use comparison::cases::Cases;
 use std::io::{Read, Write};
 
-// No file of cases is longer.
-const LIMIT: u64 = 0x400_0000;
-
-// The cases that the bytes hold, one after another, each as its letter and its body. Bytes that end within a case end
-// before that case.
-// Kept (no plainer): as one generic iterator with `Slots`, `Calls` and `Cases` it takes a trait with a law, for three bodies of three lines.
-#[derive(Drop)]
-struct Cases<'a>(&'a [u8]);
-
-impl<'a> Iterator for Cases<'a> {
-    type Item = (u8, &'a [u8]);
-
-    ghost remaining = { λ cases. at_most (length cases.0.now) };
-
-    fn next(&mut self) -> Option<(u8, &'a [u8])> {
-        let (letter, rest) = self.0.split_first()?;
-        let (length, rest) = rest.split_first_chunk::<4>()?;
-        let (body, behind) = rest.split_at_checked(u32::from_be_bytes(*length) as usize)?;
-        self.0 = behind;
-        Some((*letter, body))
-    }
-}
+// How many bytes a file of cases has at most; one more shows that a file is longer.
+const LIMIT: usize = 67_108_864;
 
 // Answers the cases that the bytes hold.
 fn answer_all(rt: &HostRuntime, bytes: &[u8]) -> anyhow::Result<()> {
@@ -46,7 +24,12 @@ fn answer_all(rt: &HostRuntime, bytes: &[u8]) -> anyhow::Result<()> {
 
 fn run(rt: &HostRuntime) -> anyhow::Result<()> {
     let mut bytes = Vec::new(rt.alloc());
-    rt.stdin().take(LIMIT).read_to_end(&mut bytes)?;
+    rt.stdin().take(LIMIT as u64 + 1).read_to_end(&mut bytes)?;
+    if bytes.len() > LIMIT {
+        return Err(anyhow!(
+            "the file of cases is longer than 67,108,864 bytes: cut it between two cases, and give each part alone"
+        ));
+    }
     answer_all(rt, bytes.as_slice())
 }
 

@@ -1,29 +1,31 @@
--- The calls at the front of bytes, one after another.
+-- Pieces at the front of bytes, one after another: calls and cases.
 use Rattle.std.proofs.Common.{◌≡◌, ℕ, zero, suc, ◌*◌, ◌<◌, ◌≤◌, Bool, true, false, cond, ◌==◌, nat_lt, List, [], ◌∷◌, length, take, drop, Some, None, Option, refl, ap, ◌∙◌, sym, arith}
-use Rattle.std.specs.Int.{from_be_bytes, w16}
+use Rattle.std.specs.Int.{from_be_bytes, w16, w32}
 use Rattle.std.proofs.lemmas.List.{length-drop}
 use Rattle.std.specs.Option.{option_map}
 use Rattle.turns.specs.declared.calls.HolderCall.{HolderCall}
 use Rattle.turns.specs.declared.calls.HolderCall.TheVariants.{Clear, Count}
 use Rattle.frame.specs.Orders.{numbers_of}
 use Rattle.calls.specs.Calls.{Call, place, run, lift, certify}
-use Rattle.comparison.specs.Calls.{and_behind, first_calls, all_calls, with_number, call_with_number, front_holder_call, blank_buffers, run_of_numbers, front_docket_call}
+use Rattle.comparison.specs.Pieces.{and_behind, first_pieces, all_pieces}
+use Rattle.comparison.specs.Calls.{with_number, call_with_number, front_holder_call, blank_buffers, run_of_numbers, front_docket_call}
+use Rattle.comparison.specs.Files.{Case, case_with_body, front_case}
 
 module _ {C : Type 0} (front : List ℕ → Option (C × List ℕ)) where
-  none_at : (n : ℕ) (bytes : List ℕ) → front bytes ≡ None → first_calls front n bytes ≡ []
+  none_at : (n : ℕ) (bytes : List ℕ) → front bytes ≡ None → first_pieces front n bytes ≡ []
   none_at zero bytes e = refl
-  none_at (suc n) bytes e = ap (and_behind (first_calls front n)) e
+  none_at (suc n) bytes e = ap (and_behind (first_pieces front n)) e
 
-  some_at : (n : ℕ) (bytes : List ℕ) (p : C × List ℕ) → front bytes ≡ Some p → first_calls front (suc n) bytes ≡ p.0 ∷ first_calls front n p.1
-  some_at n bytes p e = ap (and_behind (first_calls front n)) e
+  some_at : (n : ℕ) (bytes : List ℕ) (p : C × List ℕ) → front bytes ≡ Some p → first_pieces front (suc n) bytes ≡ p.0 ∷ first_pieces front n p.1
+  some_at n bytes p e = ap (and_behind (first_pieces front n)) e
 
-  pub all_end : (bytes : List ℕ) → front bytes ≡ None → all_calls front bytes ≡ []
-  unfolding all_calls
+  pub all_end : (bytes : List ℕ) → front bytes ≡ None → all_pieces front bytes ≡ []
+  unfolding all_pieces
   all_end bytes e = none_at (length bytes) bytes e
 
   module _ (shorter : (bytes : List ℕ) (p : C × List ℕ) → front bytes ≡ Some p → length p.1 < length bytes) where
-    -- any bound from the length on gives the same calls
-    enough : (n m : ℕ) (bytes : List ℕ) → length bytes ≤ n → length bytes ≤ m → (r : Option (C × List ℕ)) → front bytes ≡ r → first_calls front n bytes ≡ first_calls front m bytes
+    -- any bound from the length on gives the same pieces
+    enough : (n m : ℕ) (bytes : List ℕ) → length bytes ≤ n → length bytes ≤ m → (r : Option (C × List ℕ)) → front bytes ≡ r → first_pieces front n bytes ≡ first_pieces front m bytes
     enough n m bytes hn hm None e = none_at n bytes e ∙ sym (none_at m bytes e)
     enough zero m bytes hn hm (Some p) e = absurd (omega (arith, shorter bytes p e))
     enough (suc n) zero bytes hn hm (Some p) e = absurd (omega (arith, shorter bytes p e))
@@ -31,8 +33,8 @@ module _ {C : Type 0} (front : List ℕ → Option (C × List ℕ)) where
         let less = shorter bytes p e in
         some_at n bytes p e ∙ ap (λ l. p.0 ∷ l) (enough n m p.1 (omega arith) (omega arith) (front p.1) refl) ∙ sym (some_at m bytes p e)
 
-    pub all_behind : (bytes : List ℕ) (p : C × List ℕ) → front bytes ≡ Some p → all_calls front bytes ≡ p.0 ∷ all_calls front p.1
-    unfolding all_calls
+    pub all_behind : (bytes : List ℕ) (p : C × List ℕ) → front bytes ≡ Some p → all_pieces front bytes ≡ p.0 ∷ all_pieces front p.1
+    unfolding all_pieces
     all_behind bytes p e =
         let less = shorter bytes p e in
         enough (length bytes) (suc (length bytes)) bytes (omega arith) (omega arith) (Some p) e
@@ -43,7 +45,7 @@ mapped : {C : Type 0} (o : Option C) (rest : List ℕ) (p : C × List ℕ) → o
 mapped None rest p e = cc
 mapped (Some call) rest p e = cc
 
--- ---- what is behind a call is part of what is behind its tag
+-- ---- what is behind a piece is part of what is behind its tag
 
 within_rest : {C : Type 0} (call : C) (rest : List ℕ) (p : C × List ℕ) → Some (call, rest) ≡ Some p → length p.1 ≤ length rest
 within_rest call rest p e =
@@ -93,4 +95,20 @@ docket_shorter (tag ∷ bytes) p e =
     (within_either (length bytes) p (tag == 3)
     (within_number bytes _ p
     (λ r rest h. within_number rest _ p (λ i rest2 h2. within_number rest2 _ p (λ t rest3 h3. within_rest (certify (blank_buffers r i t)) rest3 p h3) h2) h)) (within_none (length bytes) p)))) e in
+    omega arith
+
+-- ---- cases
+
+within_body : (letter count : ℕ) (bytes : List ℕ) (p : Case × List ℕ) → case_with_body letter count bytes ≡ Some p → length p.1 ≤ length bytes
+within_body letter count bytes p e =
+    within_either (length bytes) p (nat_lt (length bytes) count) (within_none (length bytes) p)
+    (λ h. let inner = within_rest (letter, take count bytes) (drop count bytes) p h in omega (arith, inner, length-drop count bytes)) e
+
+-- behind a case there is less
+pub case_shorter : (bytes : List ℕ) (p : Case × List ℕ) → front_case bytes ≡ Some p → length p.1 < length bytes
+case_shorter [] p e = cc
+case_shorter (letter ∷ bytes) p e =
+    let within : length p.1 ≤ length bytes =
+    within_either (length bytes) p (nat_lt (length bytes) 4) (within_none (length bytes) p)
+    (λ h. let inner = within_body letter (from_be_bytes w32 (take 4 bytes)) (drop 4 bytes) p h in omega (arith, inner, length-drop 4 bytes)) e in
     omega arith

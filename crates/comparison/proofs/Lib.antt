@@ -2,4 +2,5 @@ pub mod Hashings
 pub mod Lasts
 pub mod Parts
 pub mod Fronts
+pub mod Files
 pub mod Slots

@@ -1,5 +1,5 @@
 -- Slots for the calls that bytes say.
-use Rattle.std.proofs.Common.{◌≡◌, ℕ, List, [], ◌∷◌, ◌++◌, length, map, refl, subst, Some, None, Ok, Option, Result, IfOk, IfSome, ap, ◌∙◌, sym, append_assoc}
+use Rattle.std.proofs.Common.{◌≡◌, ℕ, List, [], ◌∷◌, ◌++◌, map, refl, subst, Some, None, Ok, Option, Result, IfOk, IfSome, ap, ◌∙◌, sym, append_assoc}
 use Rattle.std.proofs.lemmas.List.{map-append}
 use Rattle.std.proofs.lemmas.Result.{IfOk-weaker}
 use Rattle.std.specs.declared.alloc.AllocError.{AllocError}
@@ -34,7 +34,11 @@ pub slot_taken : (bytes after : List ℕ) (made : Result Slot AllocError) → So
 slot_taken bytes after made e asks =
     let m = some_mapped (front_docket_call bytes) after e in
     let whole : docket_calls bytes ≡ m.0.0 ∷ docket_calls after = all_behind front_docket_call docket_shorter bytes m.0 m.1 ∙ ap (λ l. m.0.0 ∷ docket_calls l) m.2 in
-    (ap (λ l. length l) whole, IfOk-weaker made _ _ (λ slot h. whole ∙ ap (λ c. c ∷ docket_calls after) (sym (asked (front_docket_call bytes) m.0 (call_of slot) m.1 h))) asks)
+    (m.0.0, whole, IfOk-weaker made _ _ (λ slot h. asked (front_docket_call bytes) m.0 (call_of slot) m.1 h) asks)
+
+-- the slot that is made stands in front of the calls that are left
+pub slot_before : (before after : List Call) (made : Result Slot AllocError) → TakesFirst before (Some made) after → IfOk made (λ slot. before ≡ call_of slot ∷ after)
+slot_before before after made taken = IfOk-weaker made _ _ (λ slot h. taken.1 ∙ ap (λ c. c ∷ after) (sym h)) taken.2
 
 ok_said : (P : Slot → Type 0) (x : Result Slot AllocError) (z : Slot) → x ≡ Ok z → IfOk x P → P z
 ok_said P x z e h = let Q : Result Slot AllocError → Type 0 = λ r. IfOk r P in subst Q e h

@@ -1,5 +1,5 @@
 -- The calls that bytes say, one after another.
-use Rattle.std.specs.Prelude.{◌≡◌, ℕ, zero, suc, ◌*◌, cond, List, [], ◌∷◌, length, take, drop, replicate, Some, None, Option, Result, IfOk, IfSome, MatchOption, ◌==◌, nat_lt}
+use Rattle.std.specs.Prelude.{◌≡◌, ℕ, ◌*◌, cond, List, [], ◌∷◌, length, take, drop, replicate, Some, None, Option, Result, IfOk, IfSome, MatchOption, ◌==◌, nat_lt}
 use Rattle.std.specs.Borrow.{Bor}
 use Rattle.std.specs.declared.alloc.AllocError.{AllocError}
 use Rattle.std.specs.Int.{from_be_bytes, w16}
@@ -8,25 +8,13 @@ use Rattle.frame.specs.Orders.{numbers_of}
 use Rattle.turns.specs.declared.calls.HolderCall.{HolderCall}
 use Rattle.turns.specs.declared.calls.HolderCall.TheVariants.{Clear, Count, Rank, At, Add, Take}
 use Rattle.calls.specs.Rules.{Buffers}
+use Rattle.docket.specs.InAgreement.{three}
 use Rattle.docket.specs.declared.slot.Slot.{Slot}
 use Rattle.docket.specs.Slots.{call_of}
 use Rattle.calls.specs.Calls.{Call, place, run, lift, certify}
+use Rattle.comparison.specs.Pieces.{all_pieces}
 
 module _ {C : Type 0} where
-  -- a call and the calls behind it
-  abbrev pub and_behind : (List ℕ → List C) → Option (C × List ℕ) → List C
-  and_behind rest None = []
-  and_behind rest (Some p) = p.0 ∷ rest p.1
-
-  -- at most n calls, where front gives the call at the front of bytes and the bytes behind it
-  abbrev pub first_calls : (List ℕ → Option (C × List ℕ)) → ℕ → List ℕ → List C
-  first_calls front zero bytes = []
-  first_calls front (suc n) bytes = and_behind (first_calls front n) (front bytes)
-
-  -- all the calls up to bytes at whose front no whole call stands: each has a byte at least
-  unfoldable pub all_calls : (List ℕ → Option (C × List ℕ)) → List ℕ → List C
-  all_calls front bytes = first_calls front (length bytes) bytes
-
   -- what is said of the number of 2 bytes at the front and the bytes behind it; none where there are fewer
   abbrev pub with_number : List ℕ → (ℕ → List ℕ → Option (C × List ℕ)) → Option (C × List ℕ)
   with_number bytes say = cond (nat_lt (length bytes) 2) None (say (from_be_bytes w16 (take 2 bytes)) (drop 2 bytes))
@@ -48,14 +36,13 @@ front_holder_call [] = None
 front_holder_call (tag ∷ bytes) = call_of_tag tag bytes
 
 abbrev pub holder_calls : List ℕ → List HolderCall
-holder_calls bytes = all_calls front_holder_call bytes
+holder_calls bytes = all_pieces front_holder_call bytes
 
 -- ---- on a docket
 
 -- new buffers with so many entries, all bits set in each
 abbrev pub blank_buffers : ℕ → ℕ → ℕ → Buffers
-blank_buffers ranks instants latenesses =
-    record { ranks = replicate ranks 65535; instants = replicate instants 18446744073709551615; latenesses = replicate latenesses 65535 }
+blank_buffers ranks instants latenesses = three (replicate ranks 65535) (replicate instants 18446744073709551615) (replicate latenesses 65535)
 
 -- a run along so many numbers at the front of bytes, and what is behind it
 abbrev pub run_of_numbers : ℕ → List ℕ → Option (Call × List ℕ)
@@ -75,13 +62,13 @@ front_docket_call [] = None
 front_docket_call (tag ∷ bytes) = docket_call_of_tag tag bytes
 
 abbrev pub docket_calls : List ℕ → List Call
-docket_calls bytes = all_calls front_docket_call bytes
+docket_calls bytes = all_pieces front_docket_call bytes
 
 -- a slot that is made asks the call at the front of the bytes
 abbrev pub AsksFront : List ℕ → Option (Result Slot AllocError × Bor (List ℕ)) → Type 0
 AsksFront bytes r = IfSome r (λ p. IfOk p.0 (λ slot. IfSome (front_docket_call bytes) (λ q. call_of slot ≡ q.0)))
 
--- from one list of calls to another: the slot that is made asks the first call, and the others are left; none where no call is left
+-- from one list of calls to another: the first call is taken, and a slot that is made asks it; none where no call is left
 abbrev pub TakesFirst : List Call → Option (Result Slot AllocError) → List Call → Type 0
 TakesFirst before r after =
-    MatchOption r ((before ≡ []) × (after ≡ [])) (λ made. (length before ≡ suc (length after)) × IfOk made (λ slot. before ≡ call_of slot ∷ after))
+    MatchOption r ((before ≡ []) × (after ≡ [])) (λ made. (call : Call) × (before ≡ call ∷ after) × IfOk made (λ slot. call_of slot ≡ call))

@@ -1,8 +1,9 @@
 -- What a case is answered, by its letter and its body: none where it is no such case.
-use Rattle.std.specs.Prelude.{ℕ, ◌+◌, ◌*◌, min, cond, List, [], ◌∷◌, ◌++◌, length, take, drop, replicate, slice_index, is_ok, Some, None, Ok, Err, codes, Option, Result, ◌==◌, nat_lt}
+use Rattle.std.specs.Prelude.{ℕ, ◌+◌, ◌*◌, min, cond, List, [], ◌∷◌, ◌++◌, length, take, drop, replicate, slice_index, Some, None, Ok, Err, codes, Option, Result, ◌==◌, nat_lt}
 use Rattle.std.specs.Int.Digits.{number_from_digits}
 use Rattle.std.specs.List.{flat_map}
 use Rattle.std.specs.Option.{option_map, unwrap_or}
+use Rattle.std.specs.Result.{result_map_both}
 use Rattle.refusal.specs.Wording.{refusal_line}
 use Rattle.item.specs.declared.fault.ItemFault.{ItemFault}
 use Rattle.item.specs.declared.item.Item.{Ghosts}
@@ -12,7 +13,6 @@ use Rattle.item.specs.Lanes.{lane_number, lane_named}
 use Rattle.sheet.specs.declared.operation.Operation.{Operation}
 use Rattle.frame.specs.Orders.{numbers_of}
 use Rattle.trace.specs.declared.fault.ReadFault.{ReadFault}
-use Rattle.trace.specs.Contents.{contents, encode}
 use Rattle.trace.specs.Reading.{reading}
 use Rattle.trace.specs.Answers.{Said, read_answer, sheet_after}
 use Rattle.trace.specs.Faults.{read_refusal}
@@ -39,10 +39,14 @@ number_in at width body = number_from_digits 256 (take width (drop at body))
 abbrev pub of_parts : ℕ → ℕ → List ℕ → (List ℕ → List ℕ → List ℕ) → Option (List ℕ)
 of_parts head count body say = cond (nat_lt (length body) (head + count)) None (Some (say (take count (drop head body)) (drop count (drop head body))))
 
--- what is said where a trace is accepted, or its refusal behind the word of the case
+-- the refusal of a trace behind the word of the case
+abbrev pub unread_line : List ℕ → ReadFault → List ℕ
+unread_line word e = word ++ (codes " unread " ++ refusal_line (read_refusal e))
+
+-- what is said where a trace is accepted, or that line
 abbrev pub unless_unread : List ℕ → List ℕ → Result Said ReadFault → List ℕ
 unless_unread word said (Ok a) = said
-unless_unread word said (Err e) = word ++ (codes " unread " ++ refusal_line (read_refusal e))
+unless_unread word said (Err e) = unread_line word e
 
 module _ {I : Type 0} (t : Ghosts I) where
   -- what is said of a trace that is read with room for 1,024 operations, by its operations
@@ -82,15 +86,14 @@ writing_case body =
 
 -- the number of what a number names
 abbrev pub number_again : {A : Type 0} → (A → ℕ) → Result A ItemFault → Result ℕ ItemFault
-number_again number (Ok x) = Ok (number x)
-number_again number (Err e) = Err e
+number_again number named = result_map_both number (λ e. e) named
 
--- the number that a case of an item tells, by its kind and the 9 bytes of its body
+-- the number that a case of an item tells, by which item it is and the first 9 bytes of its body
 abbrev pub item_told : ℕ → List ℕ → Option (Result ℕ ItemFault)
-item_told kind body =
+item_told which body =
     let number = number_in 1 8 body in
-    cond (kind == 0) (Some (number_again ticket_items.number (ticket_items.named number)))
-    (cond (kind == 1) (Some (number_again stamp_items.number (stamp_items.named number))) (cond (kind == 2) (Some (number_again lane_number (lane_named (slice_index body 8)))) None))
+    cond (which == 0) (Some (number_again ticket_items.number (ticket_items.named number)))
+    (cond (which == 1) (Some (number_again stamp_items.number (stamp_items.named number))) (cond (which == 2) (Some (number_again lane_number (lane_named (slice_index body 8)))) None))
 
 -- a case of an item
 abbrev pub item_case : List ℕ → Option (List ℕ)
@@ -106,16 +109,18 @@ abbrev pub holder_case : List ℕ → Option (List ℕ)
 holder_case [] = None
 holder_case (kind ∷ calls) = Some (codes "holder" ++ words_of_calls (seat_of kind) (meaning [] 0) (holder_calls calls))
 
--- what calls on a docket are answered, one after another
+-- what a call on a docket is answered, and what stands between it and the next
 abbrev pub answer_and_stop : Answer → List ℕ
 answer_and_stop a = words_of_answer a ++ codes "; "
 
+-- what calls on a docket are answered, one after another
 abbrev pub words_of_answers : List Answer → List ℕ
-words_of_answers answers = codes "docket " ++ flat_map answer_and_stop answers
+words_of_answers answers = flat_map answer_and_stop answers
 
 -- the answers to calls on a new docket, and what its holder then holds
 abbrev pub words_of_session : SeatRule → List Paired → ℕ → List Call → List ℕ
-words_of_session seat ops k calls = words_of_answers (answers_for seat ops k [] calls) ++ words_of_held (giving_after seat ops (placed_by seat ops k [] calls))
+words_of_session seat ops k calls =
+    codes "docket " ++ (words_of_answers (answers_for seat ops k [] calls) ++ words_of_held (giving_after seat ops (placed_by seat ops k [] calls)))
 
 -- calls on a docket of a trace's operations, by its item type
 abbrev pub words_of_docket : SeatRule → ℕ → List ℕ → List ℕ → List ℕ

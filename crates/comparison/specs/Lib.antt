@@ -1,5 +1,7 @@
 pub mod Shorter
 pub mod Hashes
 pub mod Words
+pub mod Pieces
 pub mod Calls
 pub mod Cases
+pub mod Files

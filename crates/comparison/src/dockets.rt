@@ -168,7 +168,7 @@ fn held_hash<H: Holder>(holder: &H) -> u64
 fn slots_words(heap: Global, slots: &[Slot]) -> Result<String, AllocError>
     ensures { IfOk result (λ s. string_bytes s ≡ words_of_answers (map reply_of slots.now)) }
 {
-    let mut text = String::from_str(heap, "docket ")?;
+    let mut text = String::new(heap);
     for slot in slots {
         let words = slot_words(heap, slot)?;
         text.push_str(words.as_str())?;
@@ -198,10 +198,9 @@ fn docket_words<I: Item, H: Holder + Drop>(
 {
     let mut slots = all_slots(heap, calls)?;
     let docket = answer_calls(sheet, holder, k, slots.as_mut_slice());
-    let mut text = slots_words(heap, slots.as_slice())?;
+    let answers = slots_words(heap, slots.as_slice())?;
     let held = held_words(heap, &docket.close())?;
-    text.push_str(held.as_str())?;
-    Ok(text)
+    format!(in heap; "docket {answers}{held}")
 }
 
 // The same on a new holder of a kind.
@@ -259,7 +258,8 @@ fn docket_by_type(
 
 // The answer to a case of calls on a docket, or none where it is no such case.
 pub(crate) fn docket_answer(heap: Global, body: &[u8]) -> Result<Option<String>, AllocError>
-    ensures { IfOk result (λ s. option_map string_bytes s ≡ docket_case body.now) }
+    ensures answer { IfOk result (λ s. option_map string_bytes s ≡ docket_case body.now) }
+    ensures no_case { docket_case body.now ≡ None → result ≡ Ok None }
 {
     let k = number_at(body, 1, 2) as u16;
     let length = number_at(body, 3, 4) as usize;

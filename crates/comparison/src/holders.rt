@@ -69,12 +69,16 @@ impl<'a> Iterator for Calls<'a> {
 }
 
 // The answers of a holder to the calls that the bytes say, each behind a space.
-fn answers_of<H: Holder>(heap: Global, holder: &mut H, calls: &[u8]) -> Result<String, AllocError>
-    ensures { IfOk result (λ s. string_bytes s ≡ codes "holder" ++ words_of_calls H.seat (meaning (H.giving holder.old) (H.adds holder.old)) (holder_calls calls.now)) }
+fn answers_of<H: Holder + Drop>(
+    heap: Global,
+    mut holder: H,
+    calls: &[u8],
+) -> Result<String, AllocError>
+    ensures { IfOk result (λ s. string_bytes s ≡ codes "holder" ++ words_of_calls H.Holder.seat (meaning (H.Holder.giving holder) (H.Holder.adds holder)) (holder_calls calls.now)) }
 {
     let mut text = String::from_str(heap, "holder")?;
     for call in Calls(calls) {
-        let words = holder_words(heap, answer_to(holder, call))?;
+        let words = holder_words(heap, answer_to(&mut holder, call))?;
         write!(text, " {words}")?;
     }
     Ok(text)
@@ -86,15 +90,16 @@ fn answers_by_kind(heap: Global, kind: Kind, calls: &[u8]) -> Result<String, All
 {
     // Kept (no plainer): the kind is known at run time only, and a match is what picks a holder's type then.
     match kind {
-        Kind::Queue => answers_of(heap, &mut Queue::new(), calls),
-        Kind::Stack => answers_of(heap, &mut Stack::new(), calls),
-        Kind::CountingQueue => answers_of(heap, &mut CountingQueue::new(), calls),
+        Kind::Queue => answers_of(heap, Queue::new(), calls),
+        Kind::Stack => answers_of(heap, Stack::new(), calls),
+        Kind::CountingQueue => answers_of(heap, CountingQueue::new(), calls),
     }
 }
 
 // The answer to a case of calls on a holder, or none where it is no such case.
 pub(crate) fn holder_answer(heap: Global, body: &[u8]) -> Result<Option<String>, AllocError>
-    ensures { IfOk result (λ s. option_map string_bytes s ≡ holder_case body.now) }
+    ensures answer { IfOk result (λ s. option_map string_bytes s ≡ holder_case body.now) }
+    ensures no_case { holder_case body.now ≡ None → result ≡ Ok None }
 {
     let Some((kind, calls)) = body.split_first() else {
         return Ok(None);

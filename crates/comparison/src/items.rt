@@ -28,7 +28,8 @@ fn lane_again(number: u8) -> Result<u64, ItemFault>
 
 // The answer to a case of an item, or none where it is no such case.
 pub(crate) fn item_answer(heap: Global, body: &[u8]) -> Result<Option<String>, AllocError>
-    ensures { IfOk result (λ s. option_map string_bytes s ≡ item_case body.now) }
+    ensures answer { IfOk result (λ s. option_map string_bytes s ≡ item_case body.now) }
+    ensures no_case { item_case body.now ≡ None → result ≡ Ok None }
 {
     if body.len() < 9 {
         return Ok(None);

@@ -2,6 +2,7 @@
 #![tactic(auto)]
 
 pub mod case;
+pub mod cases;
 mod dockets;
 mod hash;
 mod holders;

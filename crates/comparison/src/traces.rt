@@ -1,5 +1,5 @@
 // Cases of traces: examined, read twice, and written.
-ghost use Rattle.std.specs.Prelude.{◌≡◌, ℕ, min, List, [], codes, Err, IfOk, MatchResult, string_bytes};
+ghost use Rattle.std.specs.Prelude.{◌≡◌, ℕ, min, List, codes, IfOk, MatchResult, string_bytes};
 ghost use Rattle.std.specs.Fn.{FnOnceReturnsAt};
 ghost use Rattle.std.specs.Option.{option_map};
 ghost use Rattle.sheet.specs.declared.operation.Operation.{Operation};
@@ -9,7 +9,7 @@ ghost use Rattle.trace.specs.Reading.{reading};
 ghost use Rattle.report.specs.declared.report.ReportFault.TheVariants.{NoMemory};
 ghost use Rattle.report.specs.Reports.{report_on};
 ghost use Rattle.comparison.specs.Hashes.{hash_of};
-ghost use Rattle.comparison.specs.Cases.{unless_unread, of_trace, words_of_readings, words_of_two_readings, words_of_writing, words_of_trace_written, reading_case, writing_case};
+ghost use Rattle.comparison.specs.Cases.{unread_line, of_trace, words_of_readings, words_of_two_readings, words_of_writing, words_of_trace_written, reading_case, writing_case};
 ghost use Rattle.comparison.specs.Words.{last_line, words_of_text, words_of_said, words_of_written, bytes_of_records, words_of_reading};
 
 use crate::hash::{OF_NOTHING, hash_on};
@@ -124,7 +124,8 @@ fn readings_by_type(
 
 // The answer to a case of reading twice, or none where it is no such case.
 pub(crate) fn reading_answer(heap: Global, body: &[u8]) -> Result<Option<String>, AllocError>
-    ensures { IfOk result (λ s. option_map string_bytes s ≡ reading_case body.now) }
+    ensures answer { IfOk result (λ s. option_map string_bytes s ≡ reading_case body.now) }
+    ensures no_case { reading_case body.now ≡ None → result ≡ Ok None }
 {
     let room = number_at(body, 0, 2) as usize;
     let length = number_at(body, 2, 4) as usize;
@@ -153,7 +154,7 @@ fn written_words(
 
 // The refusal of a trace behind the word of its case.
 fn unread_words(heap: Global, case: &str, fault: ReadFault) -> Result<String, AllocError>
-    ensures { IfOk result (λ s. string_bytes s ≡ unless_unread case.now [] (Err fault)) }
+    ensures { IfOk result (λ s. string_bytes s ≡ unread_line case.now fault) }
 {
     let refusal = Refusal::from(fault);
     format!(in heap; "{case} unread {refusal}")
@@ -233,7 +234,8 @@ fn writing_by_type(
 
 // The answer to a case of writing, or none where it is no such case.
 pub(crate) fn writing_answer(heap: Global, body: &[u8]) -> Result<Option<String>, AllocError>
-    ensures { IfOk result (λ s. option_map string_bytes s ≡ writing_case body.now) }
+    ensures answer { IfOk result (λ s. option_map string_bytes s ≡ writing_case body.now) }
+    ensures no_case { writing_case body.now ≡ None → result ≡ Ok None }
 {
     let k = number_at(body, 1, 2) as u16;
     let size = number_at(body, 3, 2) as usize;

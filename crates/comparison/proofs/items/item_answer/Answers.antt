@@ -6,8 +6,8 @@ use Rattle.comparison.proofs.Parts.{told_ticket, told_stamp, told_lane, told_who
 use Rattle.comparison.proofs.items.item_answer.Goals as goal
 use Rattle.comparison.proofs.items.item_answer.Goals.{in-0, in-1, in-2}
 
-pub returns : goal.returns
-returns c =
+pub returns-clause-answer : goal.returns-clause-answer
+returns-clause-answer c =
     let n : c.number_at-number.result ≡ number_in 1 8 c.args.body.now = (c.number_at-number.ensures.narrow (lit≤ tt)).0 in
     let told : item_told (slice_index c.args.body.now 0) c.args.body.now ≡ Some c.match-body.answer =
     elim c.match-body.branch [
@@ -18,3 +18,8 @@ returns c =
       | in-2 w ↦ told_lane c.args.body.now w.in-2.is ∙ ap (λ x. Some x) (sym (w.answer-is ∙ w.lane_again-answer.ensures))
     ] in
     ap (λ x. Some x) (c.in_ok-item_words.ensures) ∙ told_whole c.args.body.now c.match-body.answer c.if-body-lt9.false told
+
+pub returns-clause-no_case : goal.returns-clause-no_case
+returns-clause-no_case c none =
+    let answered = returns-clause-answer c in
+    cc

@@ -1,11 +1,11 @@
 use Rattle.std.proofs.Common.{◌≡◌, ◌+◌, ◌*◌, ◌/◌, ◌≤◌, ◌∙◌, ap, arith, drop, length, lit≤, refl, Some, slice_index, take}
 use Rattle.frame.specs.Orders.{numbers_of}
 use Rattle.comparison.specs.Cases.{number_in, words_of_trace_written}
-use Rattle.comparison.proofs.Parts.{parts_there}
+use Rattle.comparison.proofs.Parts.{parts_there, parts_answered}
 use Rattle.comparison.proofs.traces.writing_answer.Goals as goal
 
-pub returns : goal.returns
-returns c =
+pub returns-clause-answer : goal.returns-clause-answer
+returns-clause-answer c =
     let k : c.number_at-k.result ≡ number_in 1 2 c.args.body.now = (c.number_at-k.ensures.narrow (lit≤ tt)).0 in
     let m : c.number_at-size.result ≡ number_in 3 2 c.args.body.now = (c.number_at-size.ensures.narrow (lit≤ tt)).0 in
     let n : c.number_at-count.result ≡ number_in 5 2 c.args.body.now = (c.number_at-count.ensures.narrow (lit≤ tt)).0 in
@@ -23,3 +23,24 @@ returns c =
     ∙ parts_there 7 (2 * number_in 5 2 c.args.body.now) c.args.body.now
     (λ o t. words_of_trace_written (slice_index c.args.body.now 0) (number_in 1 2 c.args.body.now) (numbers_of (number_in 5 2 c.args.body.now) o) (number_in 3 2 c.args.body.now) t) fits
     (split.1 ∙ ap (λ x. take (2 * x) (drop 7 c.args.body.now)) n) (split.2 ∙ ap (λ x. drop (2 * x) (drop 7 c.args.body.now)) n)
+
+pub returns-clause-no_case : goal.returns-clause-no_case
+returns-clause-no_case c none =
+    let answered = returns-clause-answer c in
+    cc
+
+pub returns-in_err-order-clause-no_case : goal.returns-in_err-order-clause-no_case
+returns-in_err-order-clause-no_case c none =
+    let n : c.number_at-count.result ≡ number_in 5 2 c.args.body.now = (c.number_at-count.ensures.narrow (lit≤ tt)).0 in
+    let within = c.in-Some.ensures.variant.0 refl in
+    parts_answered 7 (2 * number_in 5 2 c.args.body.now) c.args.body.now
+    (λ o t. words_of_trace_written (slice_index c.args.body.now 0) (number_in 1 2 c.args.body.now) (numbers_of (number_in 5 2 c.args.body.now) o) (number_in 3 2 c.args.body.now) t)
+    (omega (arith, within, n)) none
+
+pub returns-in_err-text-clause-no_case : goal.returns-in_err-text-clause-no_case
+returns-in_err-text-clause-no_case c none =
+    let n : c.number_at-count.result ≡ number_in 5 2 c.args.body.now = (c.number_at-count.ensures.narrow (lit≤ tt)).0 in
+    let within = c.in-Some.ensures.variant.0 refl in
+    parts_answered 7 (2 * number_in 5 2 c.args.body.now) c.args.body.now
+    (λ o t. words_of_trace_written (slice_index c.args.body.now 0) (number_in 1 2 c.args.body.now) (numbers_of (number_in 5 2 c.args.body.now) o) (number_in 3 2 c.args.body.now) t)
+    (omega (arith, within, n)) none
