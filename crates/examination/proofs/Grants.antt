@@ -8,7 +8,7 @@ use Rattle.calls.specs.declared.certificate.Certificate.{Certificate}
 use Rattle.calls.specs.declared.fault.DocketFault.{DocketFault}
 use Rattle.calls.specs.Calls.{run}
 use Rattle.calls.specs.Rules.{Run, run_of, Buffers, is_too_short, certify_answer}
-use Rattle.calls.proofs.Grants.{true_granted}
+use Rattle.calls.proofs.Grants.{granted_long, true_granted}
 use Rattle.calls.proofs.Law.{the_law}
 use Rattle.calls.proofs.Turns.{whole}
 use Rattle.examination.specs.Orders.{unless_stopped, refused_as, order_answer}
@@ -19,18 +19,21 @@ ok_unstopped (Some e) a h = absurd (cc)
 ok_unstopped None (Ok c) h = (refl, refl)
 ok_unstopped None (Err e) h = absurd (cc)
 
-module _ (seat : SeatRule) (ops : List Paired) (k : ℕ) (p : List ℕ) (b : Buffers) (long : is_too_short (length ops) b ≡ false) where
-  granted_is_true : is_ok (order_answer seat ops k p b) ≡ true → TrueOrder seat ops k p
+module _ (seat : SeatRule) (ops : List Paired) (k : ℕ) (p : List ℕ) (b : Buffers) where
+  -- whatever the buffers, a certificate is granted for a true order alone
+  pub granted_is_true : is_ok (order_answer seat ops k p b) ≡ true → TrueOrder seat ops k p
   granted_is_true e =
       let h = ok_unstopped (run_of seat ops k [] 0 p).stopped (certify_answer seat ops p b) e in
       let s : (run_of seat ops k [] 0 p).steps ≡ p = ran_whole seat ops k p h.0 in
+      let long = granted_long seat ops p b h.1 in
       let law = ((the_law seat ops k (run p ∷ [])).granted b long).0 in
       subst (λ z. TrueOrder seat ops k z) s (law (ap (λ z. is_ok (certify_answer seat ops z b)) s ∙ h.1))
 
-  true_is_granted : TrueOrder seat ops k p → is_ok (order_answer seat ops k p b) ≡ true
+module _ (seat : SeatRule) (ops : List Paired) (k : ℕ) (p : List ℕ) (b : Buffers) (long : is_too_short (length ops) b ≡ false) where
+  pub true_is_granted : TrueOrder seat ops k p → is_ok (order_answer seat ops k p b) ≡ true
   true_is_granted o =
       ap (λ (z : Run). is_ok (refused_as (unless_stopped z.stopped (certify_answer seat ops p b)))) (whole seat ops k p o)
       ∙ ap (λ z. is_ok (refused_as z)) (true_granted seat ops k p o b long)
 
   pub granted_exactly : (r : Result Certificate Refusal) → r ≡ order_answer seat ops k p b → (is_ok r ≡ true → TrueOrder seat ops k p) × (TrueOrder seat ops k p → is_ok r ≡ true)
-  granted_exactly r e = (λ h. granted_is_true (sym (ap is_ok e) ∙ h), λ o. ap is_ok e ∙ true_is_granted o)
+  granted_exactly r e = (λ h. granted_is_true seat ops k p b (sym (ap is_ok e) ∙ h), λ o. ap is_ok e ∙ true_is_granted o)

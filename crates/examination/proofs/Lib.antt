@@ -1,3 +1,4 @@
 pub mod Runs
 pub mod Grants
 pub mod Traces
+pub mod TrueTraces

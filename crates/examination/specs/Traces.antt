@@ -1,5 +1,6 @@
 -- What the examination of a trace comes to, from its bytes to a certificate or the first rule that is broken.
-use Rattle.std.specs.Prelude.{◌≡◌, ℕ, ◌/◌, cond, List, Ok, Err, Result, ◌==◌, slice_index}
+use Rattle.std.specs.Prelude.{◌≡◌, ℕ, ◌/◌, cond, ◌⊎◌, List, length, Ok, Err, Result, ◌==◌, slice_index}
+use Rattle.std.proofs.Common.{inl, inr}
 use Rattle.refusal.specs.declared.Refusal.{Refusal}
 use Rattle.item.specs.declared.item.Item.{Ghosts}
 use Rattle.item.specs.Tickets.{ticket_items}
@@ -57,3 +58,12 @@ pub record TrueTrace {I : Type 0} (t : Ghosts I) (bs : List ℕ) : Type 0 where
   pub sound : Sound t 1024 contents
   pub bytes : bs ≡ encode t contents
   pub order : TrueOrder (seat_of contents.kind) (paired_all t.number contents.ops) contents.k contents.order
+
+-- the bytes of a true trace, of tickets or of stamps
+abbrev pub TrueTraceOfEither : List ℕ → Type 0
+TrueTraceOfEither bs = TrueTrace ticket_items bs ⊎ TrueTrace stamp_items bs
+
+-- how many operations it has
+abbrev pub count_of : {bs : List ℕ} → TrueTraceOfEither bs → ℕ
+count_of (inl h) = length h.contents.ops
+count_of (inr h) = length h.contents.ops

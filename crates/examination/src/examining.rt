@@ -1,15 +1,16 @@
 // From the bytes of a trace to the certificate of its order.
-ghost use Rattle.std.specs.Prelude.{◌≡◌, IfOk, vec_len, ◌==◌};
+ghost use Rattle.std.specs.Prelude.{◌≡◌, true, false, ◌⊎◌, is_ok, Err, IfOk, vec_len, ◌==◌};
 ghost use Rattle.frame.specs.Kinds.{kind_number};
 ghost use Rattle.frame.specs.Orders.{order_of};
 ghost use Rattle.trace.specs.Faults.{read_refusal};
 ghost use Rattle.trace.specs.Reading.{reading};
+ghost use Rattle.calls.specs.Rules.{is_too_short};
 ghost use Rattle.docket.specs.Pairs.{sheet_ops};
 ghost use Rattle.docket.specs.Lent.{held, SameSlices};
 ghost use Rattle.examination.specs.declared.examining.ExamineFault.TheVariants.{Refused, NoMemory};
 ghost use Rattle.examination.specs.Kinds.{seat_of};
 ghost use Rattle.examination.specs.Orders.{order_answer, order_written};
-ghost use Rattle.examination.specs.Traces.{examining, type_of, examination_of, Comes};
+ghost use Rattle.examination.specs.Traces.{examining, type_of, examination_of, Comes, TrueTraceOfEither, count_of};
 
 use crate::kind::certify_of_kind;
 use crate::proposal::Proposal;
@@ -110,7 +111,9 @@ fn certify_of<I: Item>(
     certify_accepted(heap, &sheet, &accepted, buffers)
 }
 
-// Reads a trace and certifies its order into the buffers. Refused, or for want of memory, it leaves them as they were.
+// Reads a trace and certifies its order into the buffers. Refused, or for want of memory, it leaves them as they were. A
+// certificate is granted only to the bytes of a true trace, of tickets or of stamps, and, with buffers long enough and unless
+// memory was wanting, to those of every true trace.
 pub fn certify_trace(
     heap: Global,
     bytes: &[u8],
@@ -118,6 +121,7 @@ pub fn certify_trace(
 ) -> Result<Certificate, ExamineFault>
     ensures comes { Comes (examination_of bytes.now (held buffers.old)) (held buffers.old) result (held buffers.new) }
     ensures lenders { SameSlices buffers.old buffers.new }
+    ensures granted_exactly_when_true_order { (is_ok result ≡ true → TrueTraceOfEither bytes.now) × ((h : TrueTraceOfEither bytes.now) → is_too_short (count_of h) (held buffers.old) ≡ false → (is_ok result ≡ true) ⊎ (result ≡ Err NoMemory)) }
 {
     // Kept (no plainer): an item type is chosen by a type argument, and a trait of all that is done by item type says no less.
     if has_stamps(bytes) {

@@ -1,5 +1,5 @@
 -- What callers in other languages get: plain numbers, and text over the front of their memory.
-use Rattle.std.specs.Prelude.{◌≡◌, ℕ, ◌⊎◌, cond, List, length, Ok, Err, Result, nat_le}
+use Rattle.std.specs.Prelude.{◌≡◌, ℕ, ◌<◌, ◌⊎◌, cond, List, length, Ok, Err, Result, nat_le}
 use Rattle.giving.specs.Fronts.{over}
 use Rattle.refusal.specs.declared.Layer.{Layer}
 use Rattle.refusal.specs.declared.Layer.TheVariants.{Frame, Record, Item, Sheet, Docket, Holder}
@@ -36,7 +36,7 @@ plain (Err NoMemory) = record { status = 2; layer = 0; number = 0; place = 0; de
 abbrev pub with_text : List ℕ → List ℕ → List ℕ
 with_text text memory = cond (nat_le (length text) (length memory)) (over text memory) memory
 
--- the text is over the front of the memory that was given and its length is answered, or there was not enough memory to make it: then 0 is
--- answered, and the memory is as it was given
+-- the text is over the front of the memory that was given and its length is answered, which is never 0, or there was not enough memory to
+-- make it: then 0 is answered, and the memory is as it was given
 abbrev pub WrittenOrNone : List ℕ → List ℕ → ℕ → List ℕ → Type 0
-WrittenOrNone text before n after = ((n ≡ length text) × (after ≡ with_text text before)) ⊎ ((n ≡ 0) × (after ≡ before))
+WrittenOrNone text before n after = ((0 < n) × (n ≡ length text) × (after ≡ with_text text before)) ⊎ ((n ≡ 0) × (after ≡ before))

@@ -1,11 +1,12 @@
 // What callers in Rust and C can link: bytes in memory, examined.
 #![tactic(auto)]
 
-ghost use Rattle.std.specs.Prelude.{◌≡◌, length, Result};
+ghost use Rattle.std.specs.Prelude.{◌≡◌, false, ◌⊎◌, length, Result};
 ghost use Rattle.calls.specs.declared.certificate.Certificate.{Certificate};
+ghost use Rattle.calls.specs.Rules.{is_too_short};
 ghost use Rattle.docket.specs.InAgreement.{three};
 ghost use Rattle.examination.specs.declared.examining.ExamineFault.{ExamineFault};
-ghost use Rattle.examination.specs.Traces.{examination_of, Comes};
+ghost use Rattle.examination.specs.Traces.{examination_of, Comes, TrueTraceOfEither, count_of};
 ghost use Rattle.report.specs.Reports.{report_on};
 ghost use Rattle.comparison.specs.Cases.{case_answer};
 ghost use Rattle.exports.specs.Plain.{number_of_layer, plain, with_text, WrittenOrNone};
@@ -91,7 +92,8 @@ fn write_text(text: &[u8], memory: &mut [u8]) -> usize
 }
 
 // Examines a trace: the certificate or the refusal as plain numbers, with rank errors, instants and latenesses over the
-// front of the buffers. Each buffer needs an entry for each operation, 1,024 at most.
+// front of the buffers. Each buffer needs an entry for each operation, 1,024 at most. The status is 0 only for a true trace,
+// and, with such buffers, 0 or 2 for every true trace.
 #[unsafe(no_mangle)]
 pub extern "C" fn examiner_certify(
     heap: Global,
@@ -101,7 +103,8 @@ pub extern "C" fn examiner_certify(
     latenesses: &mut [u16],
     outcome: &mut PlainOutcome,
 )
-    ensures { (r : Result Certificate ExamineFault) × Comes (examination_of bytes.now (three ranks.old instants.old latenesses.old)) (three ranks.old instants.old latenesses.old) r (three ranks.new instants.new latenesses.new) × (outcome.new ≡ plain r) }
+    ensures comes { (r : Result Certificate ExamineFault) × Comes (examination_of bytes.now (three ranks.old instants.old latenesses.old)) (three ranks.old instants.old latenesses.old) r (three ranks.new instants.new latenesses.new) × (outcome.new ≡ plain r) }
+    ensures granted_exactly_when_true_order { (outcome.new.status ≡ 0 → TrueTraceOfEither bytes.now) × ((h : TrueTraceOfEither bytes.now) → is_too_short (count_of h) (three ranks.old instants.old latenesses.old) ≡ false → (outcome.new.status ≡ 0) ⊎ (outcome.new.status ≡ 2)) }
 {
     let mut buffers = Buffers {
         ranks,

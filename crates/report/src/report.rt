@@ -1,6 +1,4 @@
-ghost use Rattle.std.specs.Prelude.{◌≡◌, ℕ, true, ◌⊎◌, IfOk, Some, MatchResult};
-ghost use Rattle.item.specs.Tickets.{ticket_items};
-ghost use Rattle.item.specs.Stamps.{stamp_items};
+ghost use Rattle.std.specs.Prelude.{◌≡◌, ℕ, true, IfOk, Some, MatchResult};
 ghost use Rattle.sheet.specs.Sheets.{entered};
 ghost use Rattle.std.specs.Option.{option_map};
 ghost use Rattle.frame.specs.Kinds.{kind_number};
@@ -8,7 +6,7 @@ ghost use Rattle.frame.specs.Orders.{order_of};
 ghost use Rattle.trace.specs.Faults.{copy_refusal};
 ghost use Rattle.trace.specs.Reading.{reading};
 ghost use Rattle.examination.specs.Kinds.{seat_of};
-ghost use Rattle.examination.specs.Traces.{TrueTrace};
+ghost use Rattle.examination.specs.Traces.{TrueTraceOfEither};
 ghost use Rattle.report.specs.declared.report.ReportFault.TheVariants.{NoMemory};
 ghost use Rattle.report.specs.Reports.{verdict_in, refusing, verdict_of_order, saying, report_on};
 
@@ -85,7 +83,7 @@ fn report_of<I: Item>(heap: Global, bytes: &[u8]) -> Result<Report, ReportFault>
 // The report of a trace: its order's certificate, or the one line of its refusal. A certificate is granted exactly to the
 // bytes of a true trace, of tickets or of stamps.
 pub fn report_trace(heap: Global, bytes: &[u8]) -> Result<Report, ReportFault>
-    ensures granted_exactly_when_true_order { IfOk result (λ p. (p.granted ≡ true → TrueTrace ticket_items bytes.now ⊎ TrueTrace stamp_items bytes.now) × (TrueTrace ticket_items bytes.now ⊎ TrueTrace stamp_items bytes.now → p.granted ≡ true)) }
+    ensures granted_exactly_when_true_order { IfOk result (λ p. (p.granted ≡ true → TrueTraceOfEither bytes.now) × (TrueTraceOfEither bytes.now → p.granted ≡ true)) }
     ensures said { MatchResult result (λ p. verdict_in p ≡ report_on bytes.now) (λ e. e ≡ NoMemory) }
 {
     // Kept (no plainer): an item type is chosen by a type argument, and a trait of all that is done by item type says no less.
