@@ -1,3 +1,2 @@
-mod Searches
 pub mod Entries
 pub mod Fills

@@ -8,6 +8,7 @@ use crate::operation::{Method, Operation};
 use item::item::Item;
 
 // Whether a method adds the item.
+// Not inlined, so that the compiler keeps the sequence of `adds_if_same`.
 #[inline(never)]
 fn adds<I: Item>(method: &Method<I>, item: &I) -> bool
     ensures { result ≡ alike I.Item.number method.now (Add item.now) }
@@ -15,8 +16,8 @@ fn adds<I: Item>(method: &Method<I>, item: &I) -> bool
     are_alike(method, &Method::Add(*item))
 }
 
-// The same, but asks for the item first: where adds and takes alternate, a processor may guess the kind wrongly at every other
-// record, and few records have the item. `adds` is not inlined, so that the compiler keeps that sequence.
+// The same, but asks for the item first: where adds and takes alternate, a processor may guess the kind wrongly at every
+// other record, and few records have the item.
 fn adds_if_same<I: Item>(method: &Method<I>, item: &I) -> bool
     ensures { result ≡ alike I.Item.number method.now (Add item.now) }
 {
