@@ -16,7 +16,6 @@ use Rattle.calls.specs.declared.certificate.Certificate.{Certificate}
 use Rattle.docket.specs.declared.step.Step.{Step}
 use Rattle.docket.specs.Kept.{entry_of, ranks_in}
 
-
 -- ---- a buffer with one more entry written
 pub over_push : (front buffer : List ℕ) (v : ℕ) → length front < length buffer → set (over front buffer) (length front) v ≡ over (front ++ v ∷ []) buffer
 over_push front buffer v h =
