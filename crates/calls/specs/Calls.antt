@@ -8,7 +8,7 @@ use Rattle.calls.specs.declared.certificate.Certificate.{Certificate}
 use Rattle.calls.specs.Faults.{code_of}
 use Rattle.calls.specs.Rules.{place_answer, joined, run_of, lift_answer, without_last, Buffers, certify_answer, written}
 
--- what may be asked of an open docket
+-- the calls on an open docket
 pub data Call : Type 0 where
   place : ℕ → Call
   run : List ℕ → Call

@@ -21,7 +21,7 @@ pub fold-hashed : {X : Type 0} (f : X → List ℕ) (h : ℕ) (xs : List X) → 
 fold-hashed f h [] = sym (hashed-none h)
 fold-hashed f h (x ∷ xs) = fold-hashed f (hashed h (f x)) xs ∙ sym (hashed-append h (f x) (flat_map f xs))
 
--- the items of a list, asked for place by place from i on
+-- the items of a list, place by place from i on
 from_place : (list : List ℕ) (n i : ℕ) → i + n ≡ length list → filter_map (λ p. result_ok (at_answer list p)) (range_with_len i n) ≡ drop i list
 from_place list zero i e = sym (drop_all i list (omega arith))
 from_place list (suc n) i e =

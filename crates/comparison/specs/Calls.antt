@@ -64,11 +64,11 @@ front_docket_call (tag ∷ bytes) = docket_call_of_tag tag bytes
 abbrev pub docket_calls : List ℕ → List Call
 docket_calls bytes = all_pieces front_docket_call bytes
 
--- a slot that is made asks the call at the front of the bytes
+-- a slot that is made has the call at the front of the bytes
 abbrev pub AsksFront : List ℕ → Option (Result Slot AllocError × Bor (List ℕ)) → Type 0
 AsksFront bytes r = IfSome r (λ p. IfOk p.0 (λ slot. IfSome (front_docket_call bytes) (λ q. call_of slot ≡ q.0)))
 
--- from one list of calls to another: the first call is taken, and a slot that is made asks it; none where no call is left
+-- from one list of calls to another: the first call is taken, and a slot that is made has it; none where no call is left
 abbrev pub TakesFirst : List Call → Option (Result Slot AllocError) → List Call → Type 0
 TakesFirst before r after =
     MatchOption r ((before ≡ []) × (after ≡ [])) (λ made. (call : Call) × (before ≡ call ∷ after) × IfOk made (λ slot. call_of slot ≡ call))

@@ -1,4 +1,4 @@
--- The walk over the blocks that have position q, from each to the next. Assumes nothing.
+-- The blocks that have position q, from each to the next. Assumes nothing.
 use Rattle.std.proofs.Common.{◌≡◌, ℕ, ◌+◌, ◌-◌, ◌<◌, ◌≤◌, ◌≢◌, List, length, get_or, set, refl, ⊎_elim, arith}
 use Rattle.std.proofs.lemmas.List.{get_or-set_same, get_or-set_other}
 use Rattle.std.proofs.lemmas.Bool.{cases_order}
@@ -11,7 +11,7 @@ module _ (q less more : ℕ) where
   abbrev pub Moved : ℕ → ℕ → ℕ → Type 0
   Moved k x y = y + (from q less k + from q more (k - block k)) ≡ x + (from q more k + from q less (k - block k))
 
-  -- the walk is at p: the sums before it are up to date, and those from it on are as they were
+  -- a change of position q has come to p: the sums before it are up to date, and those from it on are as they were
   pub record Walked (p : ℕ) (old new : List ℕ) : Type 0 where
     pub past : q ≤ p
     pub near : p ≤ 2048
@@ -32,7 +32,7 @@ module _ (q less more : ℕ) where
   pub here : (x y p : ℕ) → q ≤ p → p - block p < q → y + less ≡ x + more → Moved p x y
   here x y p on off e = omega (arith, from_on q less p on, from_on q more p on, from_off q less (p - block p) off, from_off q more (p - block p) off)
 
-  -- a block that ends between p and the next block on the walk has not q
+  -- a block that ends between p and the end of the next block with q has not q
   skipped : (x p k : ℕ) → 0 < q → q ≤ p → p ≤ 1024 → p < k → k < p + block p → Moved k x x
   skipped x p k s on w a b =
       let i = block_inside p k (omega arith) (omega arith) a b in

@@ -31,7 +31,7 @@ fn write_codes(slots: &[Option<u16>], buffer: &mut [u16]) -> usize
             break;
         }
         if let Some(code) = *slot {
-            // Kept (proof): by index, since of a zip with `iter_mut` no proof knows an element afterwards.
+            // Kept (proof): by index, since after a zip with `iter_mut` no fact says what an element is.
             buffer[written] = code;
             written += 1;
         }

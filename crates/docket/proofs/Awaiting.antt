@@ -52,7 +52,7 @@ soonest_from ts lesser (suc n) i low pos high =
 soonest_at : (ts : List ℕ) → Lesser ts → (x : ℕ) → x < 1024 → get_or ts 1 0 ≤ end_at ts x
 soonest_at ts lesser x h = soonest_from ts lesser (1024 + x) (1024 + x) (omega arith) (omega arith) (omega arith)
 
--- ---- what it spares
+-- ---- where no scan is needed
 lowest_none : (t : ℕ → Bool) (i n : ℕ) → ((b : ℕ) → b < i + n → t b ≡ false) → lowest t i n ≡ None
 lowest_none t i zero h = refl
 lowest_none t i (suc n) h =
@@ -84,7 +84,7 @@ awaits_flag b ts us n x es long own others was = λ y h.
     (λ (e : y ≡ x → ⊥). others y e ∙ was y h ∙ ap awaited_end (sym (get_or-set_other es x y (with_flag b (entry_of es x)) blank e)))
     (cases_eq y x)
 
--- moved latenesses leave them
+-- changed latenesses leave them
 pub awaits_late : (f : ℕ → ℕ) (l : Ledger) (fs : List Entry) (cs : List ℕ) → fs ≡ changed_all (with_late f) l.entries cs → Awaits l.awaited.least l.count fs
 awaits_late f l fs cs is = λ x h.
     l.ends x h ∙ sym (ap (λ (v : List Entry). awaited_end (entry_of v x)) is ∙ keeps_all awaited_end (with_late f) (λ v. refl) cs l.entries x)

@@ -1,4 +1,4 @@
--- The holder after steps that the rules let pass. Assumes nothing.
+-- The holder after steps that the rules accept. Assumes nothing.
 use Rattle.std.proofs.Common.{◌≡◌, ℕ, ◌+◌, ◌<◌, ◌≤◌, true, false, eqb, leb, List, [], ◌∷◌, length, is_ok, refl, ap, ◌∙◌, arith}
 use Rattle.std.specs.List.{AllByRecursion}
 use Rattle.std.proofs.lemmas.Bool.{eq-eqb, lt-leb, le-ltb, cond-true}
@@ -35,7 +35,7 @@ stepped_after seat x TakeOfNone L n h z l = let e : n ≡ n + 0 = omega arith in
 stepped_after seat x FoundEmpty L n h z l = let e : n ≡ n + 0 = omega arith in ap (λ (m : ℕ). record { list = L; count = m }) e
 
 module _ (seat : SeatRule) (es : List Entry) (ops : List Paired) where
-  -- an operation of the table, as the model has it
+  -- an operation of the table does what that of the list does
   abbrev pub Sane : ℕ → Type 0
   Sane x = (x < 1024) × ((entry_of es x).paired.deed ≡ (operation ops x).deed)
 

@@ -45,7 +45,7 @@ module _ (seat : SeatRule) (l u : Ledger) (x : ℕ)
   pub lifted_ops : (es : List Entry) (cs : List ℕ) → es ≡ changed_all (with_late one_less) u.entries cs → take u.count (map paired_in es) ≡ ops_of l
   lifted_ops es cs e = moved_ops es cs e ∙ u_ops
 
-  -- the latenesses moved back, and the holder told the steps that are left
+  -- the latenesses changed back, and the steps that are left made on the holder
   module _ (m : Ledger) (L : List ℕ) (n r : ℕ)
       (r_is : r ≡ get_or (ranks_in l.steps) (l.placed - 1) 0)
       (m-es : m.entries ≡ changed_all (with_late one_less) u.entries (take r L))

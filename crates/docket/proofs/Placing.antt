@@ -1,4 +1,4 @@
--- A docket in step stays in step, and answers by the rules. Assumes nothing.
+-- A docket in agreement stays in agreement, and answers by the rules. Assumes nothing.
 use Rattle.std.proofs.Common.{◌≡◌, ℕ, ◌+◌, ◌<◌, ◌≤◌, Bool, true, false, cond, not, ◌&&◌, eqb, ltb, leb, List, [], ◌∷◌, ◌++◌, map, length, get_or, take, set, Some, None, Ok, Err, Option, Result, sym, refl, ap, ◌∙◌, ⊎_elim, arith}
 use Rattle.std.specs.List.{AllByRecursion, position}
 use Rattle.std.proofs.ByRecursion.{All-from_get_or}
@@ -28,7 +28,7 @@ use Rattle.docket.proofs.Table.{op_at, length_ops, keeps_one, map_keeps_one, map
 use Rattle.docket.proofs.Holds.{Sane, stepped_after}
 
 -- ---- dockets
--- ---- what a ledger says of itself
+-- ---- what holds of every ledger
 -- what stands past the last step
 abbrev pub no_step : Step
 no_step = record { operation = 0; rank = 0 }

@@ -80,7 +80,7 @@ late_down (c ∷ cs) es k h =
     (λ (e : k ≡ c → ⊥). omega (arith, late_there (with_late one_less) es c k e, times_miss k c cs e, late_down cs (changed_at (with_late one_less) es c) k (omega arith)))
     (cases_eq k c)
 
--- moved latenesses leave the flags
+-- changed latenesses leave the flags
 pub flag_kept : (f : ℕ → ℕ) (es fs : List Entry) (cs : List ℕ) (x : ℕ) → fs ≡ changed_all (with_late f) es cs → (entry_of fs x).placed ≡ (entry_of es x).placed
 flag_kept f es fs cs x e = ap (λ (v : List Entry). (entry_of v x).placed) e ∙ keeps_all (λ (v : Entry). v.placed) (with_late f) (λ v. refl) cs es x
 

@@ -32,7 +32,7 @@ module _ {X : Type 0} (m : Ghosts X) (d : Docket X m) where
   abbrev pub running : List ℕ → Run
   running xs = run_of m.seat (ops_in d) (bound_in d) (steps_in d) 0 xs
 
-  -- what they answer to a certify, and what they have it write
+  -- what they answer to a certify, and what is then written
   abbrev pub certifying : Buffers → Result Certificate DocketFault
   certifying b = certify_answer m.seat (ops_in d) (steps_in d) b
 

@@ -1,4 +1,4 @@
--- A docket's holder and ledger, in step with one another. Assumes nothing.
+-- A docket's holder and ledger, in agreement with one another. Assumes nothing.
 use Rattle.std.specs.Prelude.{◌≡◌, ℕ, ◌<◌, List, map, take}
 use Rattle.order.specs.declared.operation.Paired.{Paired}
 use Rattle.order.specs.Steps.{SeatRule, giving_after, rank_errors, lateness, adds_in}

@@ -10,14 +10,14 @@ use Rattle.calls.specs.Rules.{unless_early}
 use Rattle.docket.specs.declared.entry.Entry.{Entry}
 use Rattle.docket.specs.Kept.{entry_of}
 
--- a holder that is told a step
+-- what a holder stands for once a step is made on it
 abbrev pub stepped : SeatRule → ℕ → Deed → Meaning → Meaning
 stepped seat x Add s = after_add seat s x
 stepped seat x (Take a) s = after_take s a
 stepped seat x TakeOfNone s = s
 stepped seat x FoundEmpty s = s
 
--- a holder that is told the steps one after another
+-- and once steps are made on it, one after another
 unfoldable pub replayed : SeatRule → List Entry → Meaning → List ℕ → Meaning
 replayed seat es s [] = s
 replayed seat es s (x ∷ p) = replayed seat es (stepped seat x (entry_of es x).paired.deed s) p

@@ -1,4 +1,4 @@
--- A slot as the call that it asks, and as the answer that it holds. Assumes nothing.
+-- A slot as the call in it, and as the answer in it. Assumes nothing.
 use Rattle.std.specs.Prelude.{◌≡◌, vec_items}
 use Rattle.calls.specs.Rules.{Buffers}
 use Rattle.calls.specs.Calls.{Call, Answer, place, run, lift, certify, to_place, to_run, to_lift, to_certify}
@@ -18,7 +18,7 @@ reply_of (Run xs n s) = to_run n s
 reply_of (Lift a) = to_lift a
 reply_of (Certify b a) = to_certify a (owned b)
 
--- what a slot asks stays, but for the buffers that a certificate is written into
+-- the call in a slot stays, but for the buffers that a certificate is written into
 abbrev pub Keeps : Slot → Slot → Type 0
 Keeps (Place x a) z = call_of z ≡ place x
 Keeps (Run xs n s) z = call_of z ≡ run (vec_items xs)

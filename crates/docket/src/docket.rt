@@ -9,7 +9,7 @@ mod opening;
 pub mod parts;
 mod steps;
 
-// The holder is told every placed step.
+// Every placed step is made on the holder too.
 #[derive(Drop)]
 pub struct Docket<H: Holder> {
     holder: H,

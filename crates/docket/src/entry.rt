@@ -1,4 +1,4 @@
-// What a docket knows of one operation.
+// What a docket keeps of one operation.
 ghost use Rattle.std.specs.Prelude.{◌≡◌, false};
 
 use order::operation::Paired;

@@ -1,4 +1,4 @@
-// The part of a docket that is no holder.
+// The ledger: all of a docket but the holder.
 ghost use Rattle.std.specs.Prelude.{ℕ, take};
 ghost use Rattle.giving.specs.Lists.{Once};
 ghost use Rattle.docket.specs.Kept.{Full, Few, Known, Flagged, Awaits, numbers_in};

@@ -38,7 +38,7 @@ pub record WorkedExamples : Type 0 where
       (record { total = 1; largest = 1; first = 4 })
       (record { ranks = 0 ∷ 0 ∷ 0 ∷ 0 ∷ 1 ∷ 0 ∷ []; instants = 0 ∷ 5 ∷ 20 ∷ 40 ∷ 45 ∷ 60 ∷ []; latenesses = 0 ∷ 1 ∷ 0 ∷ 0 ∷ 0 ∷ 0 ∷ [] })
   pub stack_bound_zero : StopsAfter stack_seat last_taken_first 0 as_numbered 4 (AboveBound 4 1)
-  -- takes that overlap may be exchanged: the instant of the one that began earlier waits
+  -- takes that overlap may be exchanged: the one that began earlier then has the other's instant
   pub takes_exchanged : Certified queue_seat last_taken_first 1 (0 ∷ 1 ∷ 2 ∷ 4 ∷ 3 ∷ 5 ∷ [])
       (record { total = 1; largest = 1; first = 4 })
       (record { ranks = 0 ∷ 0 ∷ 0 ∷ 0 ∷ 1 ∷ 0 ∷ []; instants = 0 ∷ 5 ∷ 20 ∷ 45 ∷ 45 ∷ 60 ∷ []; latenesses = 0 ∷ 1 ∷ 0 ∷ 0 ∷ 0 ∷ 0 ∷ [] })

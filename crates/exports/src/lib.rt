@@ -80,7 +80,7 @@ impl From<Result<Certificate, ExamineFault>> for PlainOutcome {
     }
 }
 
-// Lays a text over the front of the memory where it fits, and answers how long it is.
+// Writes a text over the front of the memory where it fits, and answers how long it is.
 fn write_text(text: &[u8], memory: &mut [u8]) -> usize
     ensures length { result ≡ length text.now }
     ensures memory { memory.new ≡ with_text text.now memory.old }
@@ -114,8 +114,8 @@ pub extern "C" fn examiner_certify(
     *outcome = PlainOutcome::from(certify_trace(heap, bytes, &mut buffers));
 }
 
-// Lays the text that is printed of a trace over the front of the memory, where it fits, and answers how long it is; 0 where
-// there was not enough memory to make it.
+// Writes the text that is printed of a trace over the front of the memory, where it fits, and answers how long it is;
+// 0 where there was not enough memory to make it.
 // Kept (C interface): a caller in C reads one number, so an Option is 0 here, which no text has as its length.
 #[unsafe(no_mangle)]
 pub extern "C" fn examiner_report(heap: Global, bytes: &[u8], text: &mut [u8]) -> usize
@@ -127,8 +127,8 @@ pub extern "C" fn examiner_report(heap: Global, bytes: &[u8], text: &mut [u8]) -
     }
 }
 
-// Lays the answer to a case over the front of the memory, where it fits, and answers how long it is; 0 where there was not
-// enough memory to make it.
+// Writes the answer to a case over the front of the memory, where it fits, and answers how long it is; 0 where there was
+// not enough memory to make it.
 // Kept (C interface): a caller in C reads one number, so an Option is 0 here, which no answer has as its length.
 #[unsafe(no_mangle)]
 pub extern "C" fn examiner_answer(heap: Global, letter: u8, body: &[u8], text: &mut [u8]) -> usize

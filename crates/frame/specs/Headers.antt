@@ -22,7 +22,7 @@ abbrev pub header_of : ℕ → ℕ → ℕ → ℕ → ℕ → ℕ → Result He
 header_of code bytes word count k spare =
     cond (not (word / 4096 == 1)) (Err Version) (header_from code bytes word count k spare (kind_named (word / 256 % 16)))
 
--- what the header of a trace says to a reader of the item type with that code
+-- what the header of a trace says to a reader of the item type with the number `code`
 abbrev pub frame_of : ℕ → List ℕ → Result Header FrameFault
 frame_of code bs =
     cond (nat_lt (length bs) 8) (Err Short)

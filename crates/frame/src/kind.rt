@@ -3,7 +3,7 @@ ghost use Rattle.frame.specs.Kinds.{kind_number, kind_named};
 
 use crate::fault::FrameFault;
 
-// The strict object that a trace is checked against. A header says it by a number.
+// The kind of strict object with which a trace is compared. A header says it by a number.
 #[derive(Clone, Copy, PartialEq, Eq, Debug)]
 pub enum Kind {
     Queue,

@@ -5,7 +5,7 @@ ghost use Rattle.frame.specs.Layout.{record_count, record_at, records_in};
 use crate::layout::{HEADER_LEN, OPERATION_LEN};
 use record::encoding::RECORD_LEN;
 
-// The bytes of a trace, from which it hands out its records.
+// The bytes of a trace, of which its records are parts.
 #[derive(Clone, Copy, PartialEq, Eq, Debug)]
 pub struct Trace<'a> {
     bytes: &'a [u8],

@@ -96,6 +96,6 @@ module _ (a b c : ℕ) (ac : a ≡ c → ⊥) (bc : b ≡ c → ⊥) where
   before_inserted (suc s) [] = grind (arith, nat_tests)
   before_inserted (suc s) (x ∷ xs) = grind (arith, nat_tests, before_inserted s xs)
 
--- what is said of two codes stays said when a third comes in or leaves
+-- which of two codes stands first stays so when a third comes in or leaves
 pub kept_beside : (a b : ℕ) (L : List ℕ) (r : Bool) → r ≡ ltb (place a L) (place b L) → KeptBeside a b L r
 kept_beside a b L r e = record { taken = λ c p q. before_without a b c p q L ∙ sym e; put_in = λ c s p q. before_inserted a b c p q s L ∙ sym e }

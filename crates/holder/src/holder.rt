@@ -44,7 +44,7 @@ pub trait Holder: Sized {
 
     // ---- writing: a refusal leaves the meaning as it is
 
-    // Lets every code go, and counts adds from 0 again.
+    // Takes every code out, and counts adds from 0 again.
     fn clear(&mut self)
         ensures list { giving self.new ≡ [] }
         ensures count { adds self.new ≡ 0 };

@@ -12,7 +12,7 @@ pub enum ItemFault {
 
 impl ItemFault {
     // The refusal at a place: the number of the record, or 0 outside a record.
-    // Kept (no plainer): a From would see the fault alone, and the refusal needs the place too.
+    // Kept (no plainer): a From is given the fault alone, and the refusal needs the place too.
     pub fn refusal(&self, place: u16) -> Refusal
         ensures { result ≡ item_refusal place self.now }
     {

@@ -43,7 +43,7 @@ pub sum_below_le : (n : ℕ) (f : ℕ → ℕ) → ((a : ℕ) → f a ≤ 1) →
 sum_below_le zero f h = omega arith
 sum_below_le (suc n) f h = omega (arith, h n, sum_below_le n f h)
 
--- the pigeonhole: n ones at most, which add up to n, are all there
+-- n numbers of at most 1 that add up to n are all 1
 pub sum_below_full : (n : ℕ) (f : ℕ → ℕ) → ((a : ℕ) → f a ≤ 1) → n ≤ sum_below n f → (a : ℕ) → a < n → f a ≡ 1
 sum_below_full zero f h e a l = omega arith
 sum_below_full (suc n) f h e a l =

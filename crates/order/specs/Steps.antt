@@ -1,4 +1,4 @@
--- The steps of an order: the giving list that each finds and leaves, its rank error, and whom it passes over. Assumes nothing.
+-- The steps of an order: the giving list before and after each, its rank error, and which items it passes over. Assumes nothing.
 use Rattle.std.specs.Prelude.{ℕ, zero, suc, ◌+◌, Bool, true, false, cond, List, [], ◌∷◌, length, take, ◌==◌, slice_index_or}
 use Rattle.std.specs.List.{insert}
 use Rattle.giving.specs.Lists.{times, place, stands, without}
@@ -10,7 +10,7 @@ use Rattle.order.specs.declared.operation.Paired.{Paired}
 abbrev pub SeatRule : Type 0
 SeatRule = List ℕ → ℕ → ℕ
 
--- what stands past the last operation: it is never asked for
+-- what stands past the last operation: no answer depends on it
 abbrev pub nothing : Paired
 nothing = record { deed = Add; thread = 0; start = 0; end = 0 }
 

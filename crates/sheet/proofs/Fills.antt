@@ -7,13 +7,13 @@ use Rattle.giving.specs.Fronts.{over}
 use Rattle.sheet.specs.Sheets.{memory, entered, SameLoan}
 
 module _ {I : Type 0} where
-  -- memory that nothing is entered into
+  -- memory as it was: the operations entered are over its front
   pub over_same : (s : Sheet I) → memory s ≡ over (entered s) (memory s)
   over_same s =
       let l = length-take-le s.count (memory s) s.within in
       sym (take-append-drop s.count (memory s)) ∙ ap (λ n. take s.count (memory s) ++ drop n (memory s)) (sym l)
 
-  -- memory that is over again, as far or further
+  -- a list over a front that another, of at most its length, was written over before: as if that one had not been
   pub over_twice : (os fin mem : List (Operation I)) → length os ≤ length fin → over fin (over os mem) ≡ over fin mem
   over_twice os fin mem h =
       let d = length fin - length os in
@@ -23,11 +23,11 @@ module _ {I : Type 0} where
       ∙ ap (drop d) (drop_at os (drop (length os) mem) (length os) refl) ∙ drop-drop d (length os) mem ∙ ap (λ n. drop n mem) e in
       ap (λ z. fin ++ z) p
 
-  -- a sheet that nothing is done to
+  -- a sheet as it was
   pub loan_same : (s : Sheet I) → SameLoan s s
   loan_same s = record { memory = over_same s; room = refl; lender = refl }
 
-  -- a sheet that is worked on twice, the second time only entering
+  -- a sheet after two calls, of which the second only enters
   pub loan_twice : (s t u : Sheet I) → SameLoan s t → SameLoan t u → length (entered t) ≤ length (entered u) → SameLoan s u
   loan_twice s t u a b h =
       record {

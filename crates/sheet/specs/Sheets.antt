@@ -17,7 +17,7 @@ module _ {I : Type 0} where
   abbrev pub room : Sheet I → ℕ
   room s = min (length s.records.now) 1024
 
-  -- a sheet that still stands on the same caller's records: the first of them are those entered, and the others are as before
+  -- a sheet that is still over the same caller's records: the first of them are those entered, and the others are as before
   pub record SameLoan (before after : Sheet I) : Type 0 where
     pub memory : memory after ≡ over (entered after) (memory before)
     pub room : room after ≡ room before

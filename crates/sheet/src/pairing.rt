@@ -16,8 +16,8 @@ fn adds<I: Item>(method: &Method<I>, item: &I) -> bool
     are_alike(method, &Method::Add(*item))
 }
 
-// The same, but asks for the item first: where adds and takes alternate, a processor may guess the kind wrongly at every
-// other record, and few records have the item.
+// The same, but compares the item first: where adds and takes alternate, a processor may predict the kind wrongly at
+// every other record, and few records have the item.
 fn adds_if_same<I: Item>(method: &Method<I>, item: &I) -> bool
     ensures { result ≡ alike I.Item.number method.now (Add item.now) }
 {

@@ -52,7 +52,7 @@ pub enum CopyFault {
 
 impl EntryFault {
     // The refusal of the record at that place.
-    // Kept (no plainer): a From would see the fault alone, and the refusal needs the place too.
+    // Kept (no plainer): a From is given the fault alone, and the refusal needs the place too.
     pub fn refusal(&self, place: u16) -> Refusal
         ensures { result ≡ entry_refusal place self.now }
     {

@@ -44,7 +44,7 @@ fn put_rows<T: Row<W>, const W: usize>(out: &mut [u8], at: usize, rows: &[T])
     ensures bytes { out.new ≡ take at out.old ++ flat_map T.bytes rows.now ++ drop (at + W * length rows.now) out.old }
     ensures fit { AllByRecursion T.fit rows.now }
 {
-    // Kept (proof): chunks_exact_mut and zip ask for a W above 0, and after them no fact says which bytes were written.
+    // Kept (proof): chunks_exact_mut and zip need a W above 0, and after them no fact says which bytes were written.
     for (i, row) in rows.iter().enumerate() {
         write_part(out, at + W * i, &row.row());
     }

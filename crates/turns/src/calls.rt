@@ -1,4 +1,4 @@
-// A holder driven through a list of calls.
+// A holder that is given a list of calls, one after another.
 ghost use Rattle.std.specs.Prelude.{◌≡◌, true, []};
 ghost use Rattle.holder.specs.Meanings.{meaning};
 ghost use Rattle.turns.specs.Calls.{call_answer, after, answered, after_all, Answered};

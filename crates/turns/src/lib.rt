@@ -1,4 +1,4 @@
-// Holders driven through lists of calls: a turn is a call with its answer beside it.
+// Holders that are given lists of calls: a turn is a call with its answer beside it.
 #![tactic(auto)]
 
 pub mod calls;

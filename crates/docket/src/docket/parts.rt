@@ -7,7 +7,7 @@ use crate::entry::Entry;
 use holder::holder::Holder;
 use order::operation::Deed;
 
-// The rank error of a step, where it has one: the holder says it.
+// The rank error of a step, where it has one: an answer of the holder.
 #[tactic(auto, unfolding(crate::specs::Moves::rank_found))]
 pub(crate) fn rank_of<H: Holder>(holder: &H, deed: Deed) -> Option<u16>
     ensures { result ≡ rank_found deed (H.Holder.giving holder.now) }
@@ -20,7 +20,7 @@ pub(crate) fn rank_of<H: Holder>(holder: &H, deed: Deed) -> Option<u16>
     }
 }
 
-// Tells the holder a step.
+// Makes a step on the holder: an add by `add`, and a take of an added item by `take`.
 pub(crate) fn step<H: Holder>(holder: &mut H, operation: u16, deed: Deed)
     ensures { record { list = H.Holder.giving holder.new; count = H.Holder.adds holder.new } ≡ stepped H.Holder.seat operation deed (record { list = H.Holder.giving holder.old; count = H.Holder.adds holder.old }) }
 {

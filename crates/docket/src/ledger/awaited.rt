@@ -1,4 +1,4 @@
-// The ends of the operations that are not placed, with the soonest of them at hand.
+// The ends of the operations that are not placed, which are awaited, and the soonest of them.
 ghost use Rattle.std.specs.Prelude.{◌≡◌, ℕ, ◌+◌, ◌*◌, ◌<◌, ◌≤◌, min, length, slice_index, slice_set};
 ghost use Rattle.docket.specs.Kept.{entry_of, end_at, Lesser};
 

@@ -42,7 +42,7 @@ fn write_over<T, F: Fn(&T) -> u16>(items: &[T], of: F, buffer: &mut [u16])
     ensures { (f : T → ℕ) → ((x : Bor T) (r : ℕ) → F.post of x r → r ≡ f x.now) → buffer.new ≡ over (map f items.now) buffer.old }
 {
     for (i, item) in items.iter().enumerate() {
-        // Kept (proof): by index, since of a zip with `iter_mut` no proof knows an element afterwards.
+        // Kept (proof): by index, since after a zip with `iter_mut` no fact says what an element is.
         buffer[i] = of(item);
     }
 }
@@ -66,7 +66,7 @@ impl Ledger {
         for (i, step) in order.iter().enumerate() {
             let start = self.entries[step.operation as usize].paired.start;
             last = last.max(start);
-            // Kept (proof): by index, since of a zip with `iter_mut` no proof knows an element afterwards.
+            // Kept (proof): by index, since after a zip with `iter_mut` no fact says what an element is.
             buffer[i] = last;
         }
     }

@@ -1,4 +1,4 @@
-// Steps written down and taken out again, and told to a holder.
+// Steps written down and taken out again, and made on a holder.
 ghost use Rattle.std.specs.Prelude.{◌≡◌, ℕ, [], ◌+◌, ◌-◌, ◌<◌, true, false, length, take, slice_index, slice_set};
 ghost use Rattle.docket.specs.Kept.{entry_of, numbers_in, ranks_in};
 ghost use Rattle.docket.specs.InAgreement.{steps_of};
@@ -65,7 +65,7 @@ impl Ledger {
         last
     }
 
-    // Clears the holder, and tells it the placed steps.
+    // Clears the holder, and makes the placed steps on it, from the first on.
     pub(crate) fn replay<H: Holder>(&self, holder: &mut H)
         ensures { record { list = H.Holder.giving holder.new; count = H.Holder.adds holder.new } ≡ replayed H.Holder.seat self.now.entries (record { list = []; count = 0 }) (steps_of self.now) }
     {
