@@ -11,7 +11,7 @@ module _ (q less more : ℕ) where
   abbrev pub Moved : ℕ → ℕ → ℕ → Type 0
   Moved k x y = y + (from q less k + from q more (k - block k)) ≡ x + (from q more k + from q less (k - block k))
 
-  -- a change of position q has come to p: the sums before it are up to date, and those from it on are as they were
+  -- changed up to p: the sums before it are up to date, and those from it on are as they were
   pub record Walked (p : ℕ) (old new : List ℕ) : Type 0 where
     pub past : q ≤ p
     pub near : p ≤ 2048

@@ -1,4 +1,4 @@
--- The steps of an order: the giving list before and after each, its rank error, and which items it passes over. Assumes nothing.
+-- The steps of an order: the giving list before and after each, its rank error, and what it passes over. Assumes nothing.
 use Rattle.std.specs.Prelude.{ℕ, zero, suc, ◌+◌, Bool, true, false, cond, List, [], ◌∷◌, length, take, ◌==◌, slice_index_or}
 use Rattle.std.specs.List.{insert}
 use Rattle.giving.specs.Lists.{times, place, stands, without}

@@ -13,7 +13,7 @@ module _ {I : Type 0} where
       let l = length-take-le s.count (memory s) s.within in
       sym (take-append-drop s.count (memory s)) ∙ ap (λ n. take s.count (memory s) ++ drop n (memory s)) (sym l)
 
-  -- a list over a front that another, of at most its length, was written over before: as if that one had not been
+  -- a list over memory that has one of at most its length over its front: that one is gone
   pub over_twice : (os fin mem : List (Operation I)) → length os ≤ length fin → over fin (over os mem) ≡ over fin mem
   over_twice os fin mem h =
       let d = length fin - length os in

@@ -11,7 +11,7 @@ use crate::pairing::add_of;
 use item::item::Item;
 
 // The operations entered so far, at the front of the records that the caller lends.
-// Kept (no plainer): no impl Model, since contracts tell three things of a sheet, each under its name: entered, room and memory.
+// Kept (no plainer): no impl Model, since contracts use three things of a sheet, each by its name: entered, room and memory.
 #[derive(Drop)]
 pub struct Sheet<'a, I> {
     records: &'a mut [Operation<I>],

@@ -44,7 +44,7 @@ fn entry_at<I: Item>(sheet: &Sheet<I>, number: usize) -> Entry
 {
     let operation = match sheet.all().get(number) {
         Some(operation) => paired(sheet, number, operation),
-        // Kept (no plainer): a `Default` of `Paired` would say that an operation is an add unless another is given.
+        // Kept (no plainer): a `Default` of `Paired` would say that an operation is an add by itself.
         None => Paired {
             deed: Deed::Add,
             thread: 0,
