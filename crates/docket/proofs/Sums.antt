@@ -3,34 +3,26 @@ use Rattle.std.specs.Option.{unwrap_or}
 use Rattle.std.specs.List.{fold, sum_by, position, position_from}
 use Rattle.std.proofs.lemmas.Iterator.Adapters.{position_from-zero}
 use Rattle.std.proofs.Common.{Some, Option, ◌≡◌, ℕ, suc, ◌+◌, ◌<◌, ◌≤◌, max, true, false, eqb, List, [], ◌∷◌, ◌++◌, map, length, get_or, take, drop, set, sym, refl, ap, ◌∙◌, ⊎_elim, arith}
-use Rattle.std.proofs.lemmas.List.{drop_more, set_at, append_assoc, length_push, length-map, length-take-le, map_more}
+use Rattle.std.proofs.lemmas.List.{length_push, length-map, length-take-le, map_more}
 use Rattle.std.proofs.lemmas.Bool.{cases_lt, cases_eq, cases_Bool, eq-eqb, ne_eqb, eqb-false}
 use Rattle.order.specs.Times.{earliest_from}
 use Rattle.giving.specs.Lists.{place}
 use Rattle.order.specs.declared.operation.Paired.{Paired}
 use Rattle.order.specs.Steps.{operation, sum}
 use Rattle.giving.specs.Fronts.{over}
+use Rattle.giving.proofs.Fronts.{front_push}
 use Rattle.calls.specs.Rules.{largest_of, numbers_from, summed_up}
 use Rattle.docket.specs.declared.entry.Entry.{Entry}
 use Rattle.calls.specs.declared.certificate.Certificate.{Certificate}
 use Rattle.docket.specs.declared.step.Step.{Step}
 use Rattle.docket.specs.Kept.{entry_of, ranks_in}
 
--- ---- a buffer with one more entry written
-pub over_push : (front buffer : List ℕ) (v : ℕ) → length front < length buffer → set (over front buffer) (length front) v ≡ over (front ++ v ∷ []) buffer
-over_push front buffer v h =
-    let n = length front in
-    let e : length (front ++ v ∷ []) ≡ n + 1 = length_push front v in
-    ap (λ (b : List ℕ). set (front ++ b) n v) (drop_more buffer n 0 h)
-    ∙ set_at front (get_or buffer n 0) (drop (n + 1) buffer) v n refl
-    ∙ sym (append_assoc front (v ∷ []) (drop (n + 1) buffer))
-    ∙ ap (λ (k : ℕ). (front ++ v ∷ []) ++ drop k buffer) (sym e)
-
--- a turn of a loop that writes: the front grows by the value written at its length
+-- ---- a turn of a loop that writes: the front grows by the value written at its length
 pub over_more : (front next buffer bs : List ℕ) (i v w : ℕ) → length front ≡ i → i < length buffer → next ≡ front ++ w ∷ [] → v ≡ w → bs ≡ over front buffer → set bs i v ≡ over next buffer
 over_more front next buffer bs i v w n h e is was =
-    ap (λ (b : List ℕ). set b i v) was ∙ ap (λ (k : ℕ). set (over front buffer) k v) (sym n) ∙ over_push front buffer v (omega arith)
-    ∙ ap (λ (k : ℕ). over (front ++ k ∷ []) buffer) is ∙ ap (λ (f : List ℕ). over f buffer) (sym e)
+    let long : i + 1 ≡ length next = omega (arith, n, ap length e, length_push front w) in
+    front_push front buffer bs i v n h (was ∙ ap (λ (k : ℕ). front ++ drop k buffer) n)
+    ∙ ap (λ (k : ℕ). (front ++ k ∷ []) ++ drop (i + 1) buffer) is ∙ ap (λ (f : List ℕ). f ++ drop (i + 1) buffer) (sym e) ∙ ap (λ (k : ℕ). next ++ drop k buffer) long
 
 -- the same, of what f says of the elements of a list
 module _ {X : Type 0} (f : X → ℕ) (d : X) (xs : List X) (buffer bs : List ℕ) (i : ℕ) where
