@@ -1,11 +1,12 @@
 -- A certificate says and writes what it is granted for, and nothing else does. Assumes nothing.
-use Rattle.std.proofs.Common.{◌≡◌, ℕ, zero, suc, ◌+◌, ◌<◌, ◌≤◌, eqb, List, [], ◌∷◌, ◌++◌, map, length, get_or, take, drop, Ok, sym, refl, ap, ◌∙◌, subst, ⊎_elim, add-zero, zero-add, arith, length-append, length-drop, take-append-drop, length-take-le, get_or-take, take_at, ext_get_or, drop_at}
+use Rattle.std.proofs.Common.{◌≡◌, ℕ, zero, suc, ◌+◌, ◌<◌, ◌≤◌, eqb, List, [], ◌∷◌, ◌++◌, map, length, get_or, take, drop, Ok, sym, refl, ap, ◌∙◌, subst, ⊎_elim, add-zero, zero-add, arith, length-append, length-drop, take-append-drop, length-take-le, get_or-take, ext_get_or, drop_at}
 use lib.ListN.{get_or-append}
 use lib.Seq.{get_or_at, split_at}
 use Rattle.std.specs.List.{AllZip}
 use Rattle.std.proofs.lemmas.Bool.{cond_both, eqb-false, cases_order, cases_lt}
 use Rattle.giving.specs.Lists.{place}
 use Rattle.giving.proofs.Counts.{times_at}
+use Rattle.giving.proofs.Fronts.{over_at, take_over}
 use Rattle.giving.proofs.Places.{place_some, place_there}
 use Rattle.order.specs.declared.operation.Paired.{Paired}
 use Rattle.calls.specs.declared.certificate.Certificate.{Certificate}
@@ -129,17 +130,17 @@ module _ (seat : SeatRule) (ops : List Paired) (k : ℕ) where
       let nR : length R ≡ n = length_ranks seat ops p [] ∙ g.1 in
       let nE : length E ≡ n = length_earliest ops 0 p ∙ g.1 in
       let nS : length S ≡ n = length_values f 0 n in
-      let tE : take n (over E b.instants) ≡ E = take_at E (drop (length E) b.instants) n nE in
+      let tE : take n (over E b.instants) ≡ E = take_over E b.instants n nE in
       let all : sum R ≡ passings_over seat ops p = add_up seat ops k p g.0 in
       let parts = sums seat ops k p t b in
       record {
         order = t;
         room = room;
         errors_by_step = λ u v x e.
-            subst (Costs seat ops u x) (sym (get_or-append R (drop (length R) b.ranks) 0 (length u) (omega (arith, before p u v x e, nR, g.1)))) (costs_at p u v x g.0 e);
+            subst (Costs seat ops u x) (sym (over_at R b.ranks (length u) (omega (arith, before p u v x e, nR, g.1)))) (costs_at p u v x g.0 e);
         instants = subst (Instants ops p) (sym tE) (earliest_admits ops 0 0 p t.timed.instants.0 (omega arith) t.timed.instants.1);
         least = λ ts i. subst (λ (l : List ℕ). AllZip ◌≤◌ l ts) (sym tE) (earliest_below ops 0 0 p ts (omega arith) i);
-        latenesses = λ a l. get_or-append S (drop (length S) b.latenesses) 0 a (omega (arith, nS)) ∙ (get_d_values f 0 n a l ∙ ap f (zero-add a));
+        latenesses = λ a l. over_at S b.latenesses a (omega (arith, nS)) ∙ (get_d_values f 0 n a l ∙ ap f (zero-add a));
         rest = (kept R b.ranks n nR room.0, kept E b.instants n nE room.1, kept S b.latenesses n nS room.2);
         total = all;
         total_of_ranks = all ∙ sym parts.0;

@@ -1,7 +1,8 @@
 -- Certificates are granted for true orders, and add up. Assumes nothing.
-use Rattle.std.proofs.Common.{◌≡◌, ℕ, zero, suc, ◌+◌, ◌<◌, ◌≤◌, Bool, true, false, cond, ◌||◌, ltb, ◌⊎◌, List, [], map, length, take, drop, is_ok, Some, None, Ok, Err, Option, Result, sym, refl, ap, ◌∙◌, inl, inr, ⊎_elim, add-zero, zero-add, arith, take_at}
+use Rattle.std.proofs.Common.{◌≡◌, ℕ, zero, suc, ◌+◌, ◌<◌, ◌≤◌, Bool, true, false, cond, ◌||◌, ltb, ◌⊎◌, List, [], map, length, take, is_ok, Some, None, Ok, Err, Option, Result, sym, refl, ap, ◌∙◌, inl, inr, ⊎_elim, add-zero, zero-add, arith}
 use Rattle.std.proofs.lemmas.Bool.{cond_both, cond-false, eqb-true, eqb-false, ltb-true, ltb-false, lt-ltb, le-ltb, or_from, or_cases, or_parts, or_left, or_right, both_ways}
 use Rattle.giving.specs.Lists.{times}
+use Rattle.giving.proofs.Fronts.{take_over}
 use Rattle.order.specs.declared.operation.Paired.{Paired}
 use Rattle.calls.specs.declared.fault.DocketFault.{DocketFault}
 use Rattle.calls.specs.declared.fault.DocketFault.TheVariants.{BufferTooShort}
@@ -126,7 +127,7 @@ module _ (seat : SeatRule) (ops : List Paired) (k : ℕ) (p : List ℕ) where
       let R : List ℕ = rank_errors seat ops p in
       let S : List ℕ = latenesses_of seat ops p in
       let f : ℕ → ℕ = λ a. lateness seat ops a p in (
-        ap sum (take_at R (drop (length R) b.ranks) (length ops) (length_ranks seat ops p [] ∙ g.1)) ∙ add_up seat ops k p g.0,
-        ap sum (take_at S (drop (length S) b.latenesses) (length ops) (length_values f 0 (length ops)))
+        ap sum (take_over R b.ranks (length ops) (length_ranks seat ops p [] ∙ g.1)) ∙ add_up seat ops k p g.0,
+        ap sum (take_over S b.latenesses (length ops) (length_values f 0 (length ops)))
             ∙ omega (arith, sum_values f 0 (length ops), ap (λ m. sum_below m f) (zero-add (length ops))),
       )
