@@ -1,6 +1,7 @@
 -- Buffers written from the front, and what is summed later. Assumes nothing.
 use Rattle.std.specs.Option.{unwrap_or}
-use Rattle.std.specs.List.{fold, sum_by, position, position_from}
+use Rattle.std.specs.List.{fold, sum, sum_by, position, position_from}
+use Rattle.std.proofs.lemmas.List.Sums.{sum-map}
 use Rattle.std.proofs.lemmas.Iterator.Adapters.{position_from-zero}
 use Rattle.std.proofs.Common.{Some, Option, ◌≡◌, ℕ, suc, ◌+◌, ◌<◌, ◌≤◌, max, true, false, eqb, List, [], ◌∷◌, ◌++◌, map, length, get_or, take, drop, set, sym, refl, ap, ◌∙◌, ⊎_elim, arith}
 use Rattle.std.proofs.lemmas.List.{length_push, length-map, length-take-le, map_more}
@@ -8,14 +9,13 @@ use Rattle.std.proofs.lemmas.Bool.{cases_lt, cases_eq, cases_Bool, eq-eqb, ne_eq
 use Rattle.order.specs.Times.{earliest_from}
 use Rattle.giving.specs.Lists.{place}
 use Rattle.order.specs.declared.operation.Paired.{Paired}
-use Rattle.order.specs.Steps.{operation, sum}
+use Rattle.order.specs.Steps.{operation}
 use Rattle.giving.specs.Fronts.{over}
 use Rattle.giving.proofs.Fronts.{front_push}
-use Rattle.calls.specs.Rules.{largest_of, numbers_from, summed_up}
-use Rattle.docket.specs.declared.entry.Entry.{Entry}
+use Rattle.calls.specs.Rules.{largest_of, summed_up}
 use Rattle.calls.specs.declared.certificate.Certificate.{Certificate}
 use Rattle.docket.specs.declared.step.Step.{Step}
-use Rattle.docket.specs.Kept.{entry_of, ranks_in}
+use Rattle.docket.specs.Kept.{ranks_in}
 
 -- ---- a turn of a loop that writes: the front grows by the value written at its length
 pub over_more : (front next buffer bs : List ℕ) (i v w : ℕ) → length front ≡ i → i < length buffer → next ≡ front ++ w ∷ [] → v ≡ w → bs ≡ over front buffer → set bs i v ≡ over next buffer
@@ -45,10 +45,6 @@ earliest_push ops m [] x = refl
 earliest_push ops m (y ∷ p) x = ap (λ (l : List ℕ). max m (operation ops y).start ∷ l) (earliest_push ops (max m (operation ops y).start) p x)
 
 -- ---- the sums
-total_from : (a : ℕ) (xs : List Step) → fold (λ n s. n + s.rank) a xs ≡ a + sum (ranks_in xs)
-total_from a [] = omega arith
-total_from a (x ∷ xs) = omega (arith, total_from (a + x.rank) xs)
-
 largest_from : (a : ℕ) (xs : List Step) → fold (λ m s. max m s.rank) a xs ≡ max a (largest_of (ranks_in xs))
 largest_from a [] = omega arith
 largest_from a (x ∷ xs) = omega (arith, largest_from (max a x.rank) xs)
@@ -91,7 +87,7 @@ summed [] t m f a b c = ap (λ (v : ℕ). record { total = v; largest = m; first
     ∙ ap (λ (v : Option ℕ). record { total = 0; largest = 0; first = unwrap_or v 0 }) c
 summed (x ∷ xs) t m f a b c =
     let rs = ranks_in (x ∷ xs) in
-    let total : t ≡ sum rs = omega (arith, a, total_from 0 (x ∷ xs)) in
+    let total : t ≡ sum rs = a ∙ sym (sum-map (λ (s : Step). s.rank) (x ∷ xs)) in
     let large : m ≡ largest_of rs = omega (arith, b, largest_from 0 (x ∷ xs)) in
     let long = length-map (x ∷ xs) (λ (s : Step). s.rank) in
     let found : f ≡ Some (place (largest_of rs) rs) =
@@ -100,11 +96,3 @@ summed (x ∷ xs) t m f a b c =
     ap (λ (v : ℕ). record { total = v; largest = m; first = unwrap_or f 0 }) total
     ∙ ap (λ (v : ℕ). record { total = sum rs; largest = v; first = unwrap_or f 0 }) large
     ∙ ap (λ (v : Option ℕ). record { total = sum rs; largest = largest_of rs; first = unwrap_or v 0 }) found
-
--- ---- the latenesses, as a list over the numbers
-pub map_below : (f : ℕ → ℕ) (F : Entry → ℕ) (i : ℕ) (es : List Entry) → ((x : ℕ) → x < length es → F (entry_of es x) ≡ f (i + x)) → map F es ≡ map f (numbers_from i (length es))
-map_below f F i [] h = refl
-map_below f F i (e ∷ es) h =
-    let a : F e ≡ f i = let z : i + 0 ≡ i = omega arith in h 0 (omega arith) ∙ ap f z in
-    ap (λ (y : ℕ). y ∷ map F es) a
-    ∙ ap (λ (l : List ℕ). f i ∷ l) (map_below f F (suc i) es (λ x l. let s : i + suc x ≡ suc i + x = omega arith in h (suc x) (omega arith) ∙ ap f s))

@@ -54,10 +54,6 @@ passes_over a r L = cond (times a (take r L) == 0) 0 1
 
 -- ---- sums
 
-abbrev pub sum : List ℕ → ℕ
-sum [] = 0
-sum (x ∷ xs) = x + sum xs
-
 -- f 0 + .. + f (n - 1)
 abbrev pub sum_below : ℕ → (ℕ → ℕ) → ℕ
 sum_below zero f = 0

@@ -1,6 +1,7 @@
 -- From the examination of an order to what is printed.
 use Rattle.std.proofs.Common.{◌≡◌, ℕ, zero, suc, ◌<◌, ◌≤◌, Bool, true, false, cond, List, [], ◌++◌, map, length, get_or, is_ok, Some, None, Ok, Err, Option, Result, sym, refl, ap, ◌∙◌, arith}
 use lib.ListN.{length-map}
+use Rattle.std.proofs.lemmas.List.FromFn.{length-map-range_with_len}
 use Rattle.std.specs.List.{slice_get}
 use Rattle.refusal.specs.declared.Refusal.{Refusal}
 use Rattle.item.specs.declared.item.Item.{Ghosts}
@@ -17,7 +18,7 @@ use Rattle.calls.specs.declared.certificate.Certificate.{Certificate}
 use Rattle.giving.specs.Fronts.{over}
 use Rattle.giving.proofs.Fronts.{over_at}
 use Rattle.calls.specs.Rules.{run_of, Buffers, is_too_short, latenesses_of, figures_of, certificate_of, certify_answer, written, unless_missing, missing}
-use Rattle.calls.proofs.Grants.{length_values, false_short}
+use Rattle.calls.proofs.Grants.{false_short}
 use Rattle.docket.specs.Pairs.{paired_all, paired_of}
 use Rattle.examination.specs.Orders.{unless_stopped, refused_as, order_answer, order_written}
 use Rattle.examination.proofs.Grants as order
@@ -50,7 +51,7 @@ module _ {I : Type 0} (t : Ghosts I) (seat : SeatRule) (os : List (Operation I))
   certificate_said : answering os k p (Ok (certificate_of seat ops p)) (written seat ops p b (Ok (certificate_of seat ops p))) ≡ granting os k p (certificate_of seat ops p) (figures_of seat ops p)
   certificate_said =
       let n : length (latenesses_of seat ops p) ≡ length os =
-      length_values (λ a. lateness seat ops a p) 0 (length ops)
+      length-map-range_with_len (λ a. lateness seat ops a p) 0 (length ops)
       ∙ length-map os (paired_of t.number os) in
       let end = line_of_certified k (certificate_of seat ops p) in
       ap (λ (z : List ℕ). record { text = z; granted = true })
