@@ -3,6 +3,7 @@ use Rattle.std.proofs.Common.{◌≡◌, ℕ, zero, suc, ◌+◌, ◌<◌, ◌�
 use lib.ListN.{get_or-append}
 use lib.Seq.{get_or_at, split_at}
 use Rattle.std.specs.List.{AllZip, sum}
+use Rattle.std.proofs.lemmas.List.Recursion.{max_bounds}
 use Rattle.std.proofs.lemmas.List.FromFn.{length-map-range_with_len, get_or-map-range_with_len}
 use Rattle.std.proofs.lemmas.Bool.{cond_both, eqb-false, cases_order, cases_lt}
 use Rattle.giving.specs.Lists.{place}
@@ -27,9 +28,7 @@ use Rattle.calls.proofs.Grants.{Long, sums}
 
 -- the largest of a list and its first place
 bounded : (xs : List ℕ) (j : ℕ) → j < length xs → get_or xs j 0 ≤ largest_of xs
-bounded [] j l = absurd (omega arith)
-bounded (x ∷ xs) zero l = omega arith
-bounded (x ∷ xs) (suc j) l = omega (arith, bounded xs j (omega arith))
+bounded xs j l = max_bounds largest_of (λ (x : ℕ). x) refl (λ _ _. refl) xs j 0 l
 
 attained : (xs : List ℕ) → 0 < length xs → (j : ℕ) × (j < length xs) × (get_or xs j 0 ≡ largest_of xs)
 attained [] l = absurd (omega arith)
@@ -37,6 +36,9 @@ attained (x ∷ []) l = (0, omega arith, omega arith)
 attained (x ∷ (y ∷ xs)) l =
     let h = attained (y ∷ xs) (omega arith) in
     ⊎_elim (λ q. (suc h.0, omega arith, omega (arith, h.2))) (λ q. (0, omega arith, omega arith)) (cases_lt x (largest_of (y ∷ xs)))
+
+pub largest_stands : (xs : List ℕ) → 0 < length xs → place (largest_of xs) xs < length xs
+largest_stands xs l = let a = attained xs l in place_some (largest_of xs) xs (times_at (largest_of xs) a.0 xs a.1 a.2)
 
 before_place : (m : ℕ) (xs : List ℕ) (j : ℕ) → j < place m xs → get_or xs j 0 ≡ m → ⊥
 before_place m [] j l e = omega arith
@@ -52,7 +54,7 @@ largest_is xs ys n e =
     let m : ℕ = largest_of xs in
     let i : ℕ = place m xs in
     let at : (j : ℕ) → j < n → get_or (xs ++ ys) j 0 ≡ get_or xs j 0 = λ j l. get_or-append xs ys 0 j (omega arith) in
-    let here : 0 < n → i < n = λ l. let a = attained xs (omega arith) in omega (arith, place_some m xs (times_at m a.0 xs a.1 a.2)) in
+    let here : 0 < n → i < n = λ l. omega (arith, largest_stands xs (omega arith)) in
     record {
       bound = λ j l. omega (arith, at j l, bounded xs j (omega arith));
       there = λ l. let h = here l in (h, at i h ∙ place_there m xs (omega arith));

@@ -1,11 +1,12 @@
 -- Buffers written from the front, and what is summed later. Assumes nothing.
 use Rattle.std.specs.Option.{unwrap_or}
-use Rattle.std.specs.List.{fold, sum, sum_by, position, position_from}
+use Rattle.std.specs.List.{fold, sum, sum_by, position, position_or_len}
 use Rattle.std.proofs.lemmas.List.Sums.{sum-map}
-use Rattle.std.proofs.lemmas.Iterator.Adapters.{position_from-zero}
-use Rattle.std.proofs.Common.{Some, Option, ◌≡◌, ℕ, suc, ◌+◌, ◌<◌, ◌≤◌, max, true, false, eqb, List, [], ◌∷◌, ◌++◌, map, length, get_or, take, drop, set, sym, refl, ap, ◌∙◌, ⊎_elim, arith}
+use Rattle.std.proofs.lemmas.List.Recursion.{is_position_or_len}
+use Rattle.std.proofs.Common.{Some, None, Option, ◌≡◌, ℕ, suc, ◌+◌, ◌<◌, ◌≤◌, max, cond, eqb, ltb, List, [], ◌∷◌, ◌++◌, map, length, get_or, take, drop, set, sym, refl, ap, ◌∙◌, arith}
 use Rattle.std.proofs.lemmas.List.{length_push, length-map, length-take-le, map_more}
-use Rattle.std.proofs.lemmas.Bool.{cases_lt, cases_eq, cases_Bool, eq-eqb, ne_eqb, eqb-false}
+use Rattle.std.proofs.lemmas.Bool.{cond-true, lt-ltb}
+use Rattle.std.proofs.lemmas.Bool.Decides.{nat_tests}
 use Rattle.order.specs.Times.{earliest_from}
 use Rattle.giving.specs.Lists.{place}
 use Rattle.order.specs.declared.operation.Paired.{Paired}
@@ -13,6 +14,7 @@ use Rattle.order.specs.Steps.{operation}
 use Rattle.giving.specs.Fronts.{over}
 use Rattle.giving.proofs.Fronts.{front_push}
 use Rattle.calls.specs.Rules.{largest_of, summed_up}
+use Rattle.calls.proofs.Filled.{largest_stands}
 use Rattle.calls.specs.declared.certificate.Certificate.{Certificate}
 use Rattle.docket.specs.declared.step.Step.{Step}
 use Rattle.docket.specs.Kept.{ranks_in}
@@ -50,35 +52,14 @@ largest_from a [] = omega arith
 largest_from a (x ∷ xs) = omega (arith, largest_from (max a x.rank) xs)
 
 -- the first step with a rank error that some step has
-first_from : (m i : ℕ) (xs : List Step) → place m (ranks_in xs) < length xs → position_from (λ s. eqb s.rank m) i xs ≡ Some (i + place m (ranks_in xs))
-first_from m i [] h = absurd (omega arith)
-first_from m i (x ∷ xs) h =
-    ⊎_elim
-    (λ (e : m ≡ x.rank).
-    let t : eqb m x.rank ≡ true = eq-eqb m x.rank e in
-    let u : eqb x.rank m ≡ true = eq-eqb x.rank m (sym e) in
-    let z : i ≡ i + 0 = omega arith in
-    rw (t, u) (ap Some z))
-    (λ (e : m ≡ x.rank → ⊥).
-    let t : eqb m x.rank ≡ false = ne_eqb m x.rank e in
-    let u : eqb x.rank m ≡ false = ne_eqb x.rank m (λ q. e (sym q)) in
-    let g : suc (place m (ranks_in xs)) < suc (length xs) = rw t at h in
-    let n : i + 1 + place m (ranks_in xs) ≡ i + suc (place m (ranks_in xs)) = omega arith in
-    rw (t, u) (first_from m (i + 1) xs (omega arith) ∙ ap Some n))
-    (cases_eq m x.rank)
+first_step : (m r n : ℕ) → cond (eqb m r) 0 (suc n) ≡ cond (eqb r m) 0 (1 + n)
+first_step m r n = grind (arith, nat_tests)
 
-largest_in : (x : ℕ) (xs : List ℕ) → place (largest_of (x ∷ xs)) (x ∷ xs) < length (x ∷ xs)
-largest_in x [] = let e : eqb (max x 0) x ≡ true = eq-eqb _ _ (omega arith) in rw e (omega arith)
-largest_in x (y ∷ ys) =
-    ⊎_elim
-    (λ (t : eqb (largest_of (x ∷ (y ∷ ys))) x ≡ true). rw t (omega arith))
-    (λ (t : eqb (largest_of (x ∷ (y ∷ ys))) x ≡ false).
-    let ne = eqb-false _ _ t in
-    let e : largest_of (x ∷ (y ∷ ys)) ≡ largest_of (y ∷ ys) = ⊎_elim (λ (q : x < largest_of (y ∷ ys)). omega arith) (λ (q : largest_of (y ∷ ys) ≤ x). absurd (ne (omega arith))) (cases_lt x (largest_of (y ∷ ys))) in
-    let h = largest_in y ys in
-    let k : place (largest_of (x ∷ (y ∷ ys))) (y ∷ ys) ≡ place (largest_of (y ∷ ys)) (y ∷ ys) = ap (λ (m : ℕ). place m (y ∷ ys)) e in
-    rw t (omega (arith, h, k)))
-    (cases_Bool (eqb (largest_of (x ∷ (y ∷ ys))) x))
+first_is : (m : ℕ) (xs : List Step) → place m (ranks_in xs) < length xs → position (λ s. eqb s.rank m) xs ≡ Some (place m (ranks_in xs))
+first_is m xs h =
+    let e : place m (ranks_in xs) ≡ position_or_len (λ s. eqb s.rank m) xs =
+    is_position_or_len (λ (ys : List Step). place m (ranks_in ys)) (λ s. eqb s.rank m) refl (λ x ys. first_step m x.rank (place m (ranks_in ys))) xs in
+    ap (λ (n : ℕ). cond (ltb n (length xs)) (Some n) None) (sym e) ∙ cond-true (ltb (place m (ranks_in xs)) (length xs)) (Some (place m (ranks_in xs))) None (lt-ltb _ _ h)
 
 -- what is summed up of the steps
 pub summed : (xs : List Step) (t m : ℕ) (f : Option ℕ) → t ≡ sum_by (λ s. s.rank) xs → m ≡ fold (λ n s. max n s.rank) 0 xs → f ≡ position (λ s. eqb s.rank m) xs
@@ -91,8 +72,7 @@ summed (x ∷ xs) t m f a b c =
     let large : m ≡ largest_of rs = omega (arith, b, largest_from 0 (x ∷ xs)) in
     let long = length-map (x ∷ xs) (λ (s : Step). s.rank) in
     let found : f ≡ Some (place (largest_of rs) rs) =
-    c ∙ ap (λ (v : ℕ). position (λ s. eqb s.rank v) (x ∷ xs)) large ∙ position_from-zero (λ s. eqb s.rank (largest_of rs)) (x ∷ xs)
-    ∙ first_from (largest_of rs) 0 (x ∷ xs) (omega (arith, largest_in x.rank (ranks_in xs))) ∙ (let z : 0 + place (largest_of rs) rs ≡ place (largest_of rs) rs = omega arith in ap Some z) in
+    c ∙ ap (λ (v : ℕ). position (λ s. eqb s.rank v) (x ∷ xs)) large ∙ first_is (largest_of rs) (x ∷ xs) (omega (arith, long, largest_stands rs (omega (arith, long)))) in
     ap (λ (v : ℕ). record { total = v; largest = m; first = unwrap_or f 0 }) total
     ∙ ap (λ (v : ℕ). record { total = sum rs; largest = v; first = unwrap_or f 0 }) large
     ∙ ap (λ (v : Option ℕ). record { total = sum rs; largest = largest_of rs; first = unwrap_or v 0 }) found
