@@ -1,52 +1,19 @@
--- Buffers written from the front, and what is summed later. Assumes nothing.
+-- What a certificate sums up of the steps. Assumes nothing.
 use Rattle.std.specs.Option.{unwrap_or}
 use Rattle.std.specs.List.{fold, sum, sum_by, position, position_or_len}
 use Rattle.std.proofs.lemmas.List.Sums.{sum-map}
 use Rattle.std.proofs.lemmas.List.Recursion.{is_position_or_len}
-use Rattle.std.proofs.Common.{Some, None, Option, ◌≡◌, ℕ, suc, ◌+◌, ◌<◌, ◌≤◌, max, cond, eqb, ltb, List, [], ◌∷◌, ◌++◌, map, length, get_or, take, drop, set, sym, refl, ap, ◌∙◌, arith}
-use Rattle.std.proofs.lemmas.List.{length_push, length-map, length-take-le, map_more}
+use Rattle.std.proofs.Common.{◌≡◌, ℕ, suc, ◌+◌, ◌<◌, max, cond, eqb, ltb, List, [], ◌∷◌, length, Some, None, Option, sym, refl, ap, ◌∙◌, arith}
+use Rattle.std.proofs.lemmas.List.{length-map}
 use Rattle.std.proofs.lemmas.Bool.{cond-true, lt-ltb}
 use Rattle.std.proofs.lemmas.Bool.Decides.{nat_tests}
-use Rattle.order.specs.Times.{earliest_from}
 use Rattle.giving.specs.Lists.{place}
-use Rattle.order.specs.declared.operation.Paired.{Paired}
-use Rattle.order.specs.Steps.{operation}
-use Rattle.giving.specs.Fronts.{over}
-use Rattle.giving.proofs.Fronts.{front_push}
 use Rattle.calls.specs.Rules.{largest_of, summed_up}
 use Rattle.calls.proofs.Filled.{largest_stands}
 use Rattle.calls.specs.declared.certificate.Certificate.{Certificate}
 use Rattle.docket.specs.declared.step.Step.{Step}
 use Rattle.docket.specs.Kept.{ranks_in}
 
--- ---- a turn of a loop that writes: the front grows by the value written at its length
-pub over_more : (front next buffer bs : List ℕ) (i v w : ℕ) → length front ≡ i → i < length buffer → next ≡ front ++ w ∷ [] → v ≡ w → bs ≡ over front buffer → set bs i v ≡ over next buffer
-over_more front next buffer bs i v w n h e is was =
-    let long : i + 1 ≡ length next = omega (arith, n, ap length e, length_push front w) in
-    front_push front buffer bs i v n h (was ∙ ap (λ (k : ℕ). front ++ drop k buffer) n)
-    ∙ ap (λ (k : ℕ). (front ++ k ∷ []) ++ drop (i + 1) buffer) is ∙ ap (λ (f : List ℕ). f ++ drop (i + 1) buffer) (sym e) ∙ ap (λ (k : ℕ). next ++ drop k buffer) long
-
--- the same, of what f says of the elements of a list
-module _ {X : Type 0} (f : X → ℕ) (d : X) (xs : List X) (buffer bs : List ℕ) (i : ℕ) where
-  pub over_map_more : i < length xs → length xs ≤ length buffer → bs ≡ over (map f (take i xs)) buffer → set bs i (f (get_or xs i d)) ≡ over (map f (take (i + 1) xs)) buffer
-  over_map_more h l was =
-      over_more (map f (take i xs)) (map f (take (i + 1) xs)) buffer bs i (f (get_or xs i d)) (f (get_or xs i d))
-      (length-map (take i xs) f ∙ length-take-le i xs (omega arith)) (omega arith) (map_more f xs i d h) refl was
-
--- ---- the least instants
-abbrev pub top : List Paired → ℕ → List ℕ → ℕ
-top ops m [] = m
-top ops m (x ∷ p) = top ops (max m (operation ops x).start) p
-
-pub top_push : (ops : List Paired) (m : ℕ) (p : List ℕ) (x : ℕ) → top ops m (p ++ x ∷ []) ≡ max (top ops m p) (operation ops x).start
-top_push ops m [] x = refl
-top_push ops m (y ∷ p) x = top_push ops (max m (operation ops y).start) p x
-
-pub earliest_push : (ops : List Paired) (m : ℕ) (p : List ℕ) (x : ℕ) → earliest_from ops m (p ++ x ∷ []) ≡ earliest_from ops m p ++ max (top ops m p) (operation ops x).start ∷ []
-earliest_push ops m [] x = refl
-earliest_push ops m (y ∷ p) x = ap (λ (l : List ℕ). max m (operation ops y).start ∷ l) (earliest_push ops (max m (operation ops y).start) p x)
-
--- ---- the sums
 largest_from : (a : ℕ) (xs : List Step) → fold (λ m s. max m s.rank) a xs ≡ max a (largest_of (ranks_in xs))
 largest_from a [] = omega arith
 largest_from a (x ∷ xs) = omega (arith, largest_from (max a x.rank) xs)
