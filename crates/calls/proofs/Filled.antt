@@ -6,13 +6,13 @@ use Rattle.std.specs.List.{AllZip, sum}
 use Rattle.std.proofs.lemmas.List.Recursion.{max_bounds}
 use Rattle.std.proofs.lemmas.List.FromFn.{length-map-range_with_len, get_or-map-range_with_len}
 use Rattle.std.proofs.lemmas.Bool.{cond_both, eqb-false, cases_order, cases_lt}
-use Rattle.giving.specs.Lists.{place}
+use Rattle.giving.specs.Lists.{SeatRule, place}
 use Rattle.giving.proofs.Counts.{times_at}
 use Rattle.giving.proofs.Fronts.{over_at, take_over}
 use Rattle.giving.proofs.Places.{place_some, place_there}
 use Rattle.order.specs.declared.operation.Paired.{Paired}
 use Rattle.calls.specs.declared.certificate.Certificate.{Certificate}
-use Rattle.order.specs.Steps.{SeatRule, operation, rank_error, rank_errors, rank_errors_from, after_step, giving_after, lateness, passings_over}
+use Rattle.order.specs.Steps.{operation, rank_error, rank_errors, rank_errors_from, after_step, giving_after, lateness, passings_over}
 use Rattle.order.specs.Times.{Instants, earliest}
 use Rattle.order.specs.Orders.{Placed, TrueOrder}
 use Rattle.order.proofs.AddUp.{add_up}

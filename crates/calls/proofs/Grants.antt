@@ -3,13 +3,13 @@ use Rattle.std.proofs.Common.{◌≡◌, ℕ, zero, suc, ◌+◌, ◌<◌, ◌�
 use Rattle.std.specs.List.{sum, range_with_len}
 use Rattle.std.proofs.lemmas.List.FromFn.{length-map-range_with_len, sum_by-map-range_with_len_more}
 use Rattle.std.proofs.lemmas.Bool.{cond_both, cond-false, eqb-true, eqb-false, ltb-true, ltb-false, lt-ltb, le-ltb, or_from, or_cases, or_parts, or_left, or_right, both_ways}
-use Rattle.giving.specs.Lists.{times}
+use Rattle.giving.specs.Lists.{SeatRule, times}
 use Rattle.giving.proofs.Fronts.{take_over}
 use Rattle.order.specs.declared.operation.Paired.{Paired}
 use Rattle.calls.specs.declared.fault.DocketFault.{DocketFault}
 use Rattle.calls.specs.declared.fault.DocketFault.TheVariants.{BufferTooShort}
 use Rattle.calls.specs.declared.certificate.Certificate.{Certificate}
-use Rattle.order.specs.Steps.{SeatRule, rank_errors, sum_below, lateness, passings_over}
+use Rattle.order.specs.Steps.{rank_errors, sum_below, lateness, passings_over}
 use Rattle.order.specs.Orders.{Placed, TrueOrder}
 use Rattle.order.proofs.Sums.{sum_below_times, sum_below_ones}
 use Rattle.order.proofs.Whole.{placed_of_true, true_of_placed, placed_known, placed_once}

@@ -2,9 +2,9 @@
 use Rattle.std.specs.Prelude.{ℕ, zero, suc, ◌-◌, max, Bool, cond, not, ◌&&◌, ◌||◌, List, [], ◌∷◌, ◌++◌, map, length, take, Some, None, Ok, Err, Option, Result, ◌==◌, nat_le, nat_lt, slice_index}
 use Rattle.std.specs.List.{sum, range_with_len}
 use Rattle.giving.specs.Fronts.{over}
-use Rattle.giving.specs.Lists.{times, place}
+use Rattle.giving.specs.Lists.{SeatRule, times, place}
 use Rattle.order.specs.declared.operation.Paired.{Paired}
-use Rattle.order.specs.Steps.{SeatRule, operation, has_rank, rank_error, rank_errors, lateness, giving_after}
+use Rattle.order.specs.Steps.{operation, has_rank, rank_error, rank_errors, lateness, giving_after}
 use Rattle.order.specs.Times.{precedes, earliest}
 use Rattle.calls.specs.declared.fault.DocketFault.{DocketFault}
 use Rattle.calls.specs.declared.fault.DocketFault.TheVariants.{NoSuchOperation, PlacedAlready, TooEarly, NotHeld, AboveBound, NothingToLift, StepsMissing, BufferTooShort}

@@ -5,8 +5,8 @@ use Rattle.std.proofs.lemmas.List.FromFn.{fill_by_all}
 use Rattle.std.proofs.lemmas.Bool.{cond-true, cond-false}
 use Rattle.calls.specs.declared.certificate.Certificate.{Certificate}
 use Rattle.order.specs.Times.{earliest}
-use Rattle.giving.specs.Lists.{times}
-use Rattle.order.specs.Steps.{SeatRule, rank_errors, lateness}
+use Rattle.giving.specs.Lists.{SeatRule, times}
+use Rattle.order.specs.Steps.{rank_errors, lateness}
 use Rattle.calls.specs.declared.fault.DocketFault.{DocketFault}
 use Rattle.calls.specs.declared.fault.DocketFault.TheVariants.{StepsMissing, BufferTooShort}
 use Rattle.giving.specs.Fronts.{over}

@@ -4,13 +4,13 @@ use mathlib.Core.Path.{fun_ext}
 use Rattle.std.specs.List.{AllByRecursion, sum}
 use Rattle.std.proofs.lemmas.List.Sums.{sum_by-cons}
 use Rattle.std.proofs.ByRecursion.{All-append, All-take, All-drop}
-use Rattle.giving.specs.Lists.{times}
+use Rattle.giving.specs.Lists.{SeatRule, times}
 use Rattle.giving.proofs.Counts.{times_insert, times_take, times_without, all_without, once_more}
 use Rattle.giving.proofs.Places.{place_le}
 use Rattle.order.specs.declared.operation.Deed.{Deed}
 use Rattle.order.specs.declared.operation.Deed.TheVariants.{Add, Take, TakeOfNone, FoundEmpty}
 use Rattle.order.specs.declared.operation.Paired.{Paired}
-use Rattle.order.specs.Steps.{SeatRule, operation, rank_error, after_step, passes_over, sum_below, rank_errors_from, lateness_from, rank_errors, passings_over}
+use Rattle.order.specs.Steps.{operation, rank_error, after_step, passes_over, sum_below, rank_errors_from, lateness_from, rank_errors, passings_over}
 use Rattle.order.specs.Orders.{PlacedFrom, Placed}
 use Rattle.order.proofs.Sums.{passes_times, sum_below_zero, sum_below_add, sum_below_times}
 

@@ -3,11 +3,11 @@ use Rattle.std.proofs.Common.{◌≡◌, ℕ, suc, ◌+◌, ◌*◌, ◌≤◌, 
 use Rattle.std.specs.List.{insert, sum}
 use Rattle.std.proofs.lemmas.List.Sums.{sum_by-cons}
 use Rattle.std.proofs.lemmas.Bool.{cond_both}
-use Rattle.giving.specs.Lists.{times, without}
+use Rattle.giving.specs.Lists.{SeatRule, times, without}
 use Rattle.order.specs.declared.operation.Deed.{Deed}
 use Rattle.order.specs.declared.operation.Deed.TheVariants.{Add, Take, TakeOfNone, FoundEmpty}
 use Rattle.order.specs.declared.operation.Paired.{Paired}
-use Rattle.order.specs.Steps.{SeatRule, operation, rank_error, after_step, items_added, passes_over, giving_from, rank_errors_from, lateness_from, adds_in}
+use Rattle.order.specs.Steps.{operation, rank_error, after_step, items_added, passes_over, giving_from, rank_errors_from, lateness_from, adds_in}
 use Rattle.order.specs.Orders.{Placed, WithinBound}
 use Rattle.order.specs.Laws.{Sizes}
 use Rattle.order.proofs.Sums.{sum_below_times, sum_below_le}

@@ -1,14 +1,10 @@
 -- The steps of an order: the giving list that each finds and leaves, its rank error, and whom it passes over. Assumes nothing.
 use Rattle.std.specs.Prelude.{ℕ, zero, suc, ◌+◌, Bool, true, false, cond, List, [], ◌∷◌, length, take, ◌==◌, slice_index_or}
 use Rattle.std.specs.List.{insert}
-use Rattle.giving.specs.Lists.{times, place, stands, without}
+use Rattle.giving.specs.Lists.{SeatRule, times, place, stands, without}
 use Rattle.order.specs.declared.operation.Deed.{Deed}
 use Rattle.order.specs.declared.operation.Deed.TheVariants.{Add, Take, TakeOfNone, FoundEmpty}
 use Rattle.order.specs.declared.operation.Paired.{Paired}
-
--- where a new code goes in, by the giving list and the code
-abbrev pub SeatRule : Type 0
-SeatRule = List ℕ → ℕ → ℕ
 
 -- what stands past the last operation: it is never asked for
 abbrev pub nothing : Paired

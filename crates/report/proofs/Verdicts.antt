@@ -3,11 +3,12 @@ use Rattle.std.proofs.Common.{◌≡◌, ℕ, zero, suc, ◌<◌, ◌≤◌, Boo
 use lib.ListN.{length-map}
 use Rattle.std.proofs.lemmas.List.FromFn.{length-map-range_with_len}
 use Rattle.std.specs.List.{slice_get}
+use Rattle.giving.specs.Lists.{SeatRule}
 use Rattle.refusal.specs.declared.Refusal.{Refusal}
 use Rattle.item.specs.declared.item.Item.{Ghosts}
 use Rattle.sheet.specs.declared.operation.Operation.{Operation}
 use Rattle.order.specs.declared.operation.Paired.{Paired}
-use Rattle.order.specs.Steps.{SeatRule, rank_errors, lateness}
+use Rattle.order.specs.Steps.{rank_errors, lateness}
 use Rattle.order.specs.Times.{earliest}
 use Rattle.order.specs.Orders.{TrueOrder}
 use Rattle.order.proofs.Growing.{length_ranks}
