@@ -1,15 +1,18 @@
 -- A certificate says and writes what it is granted for, and nothing else does. Assumes nothing.
-use Rattle.std.proofs.Common.{◌≡◌, ℕ, zero, suc, ◌+◌, ◌<◌, ◌≤◌, eqb, List, [], ◌∷◌, ◌++◌, map, length, get_or, take, drop, Ok, sym, refl, ap, ◌∙◌, subst, ⊎_elim, add-zero, zero-add, arith, length-append, length-drop, take-append-drop, length-take-le, get_or-take, take_at, ext_get_or, drop_at}
+use Rattle.std.proofs.Common.{◌≡◌, ℕ, zero, suc, ◌+◌, ◌<◌, ◌≤◌, eqb, List, [], ◌∷◌, ◌++◌, map, length, get_or, take, drop, Ok, sym, refl, ap, ◌∙◌, subst, ⊎_elim, zero-add, arith, length-append, length-drop, take-append-drop, length-take-le, get_or-take, ext_get_or, drop_at}
 use lib.ListN.{get_or-append}
 use lib.Seq.{get_or_at, split_at}
-use Rattle.std.specs.List.{AllZip}
+use Rattle.std.specs.List.{AllZip, sum}
+use Rattle.std.proofs.lemmas.List.Recursion.{max_bounds}
+use Rattle.std.proofs.lemmas.List.FromFn.{length-map-range_with_len, get_or-map-range_with_len}
 use Rattle.std.proofs.lemmas.Bool.{cond_both, eqb-false, cases_order, cases_lt}
-use Rattle.giving.specs.Lists.{place}
+use Rattle.giving.specs.Lists.{SeatRule, place}
 use Rattle.giving.proofs.Counts.{times_at}
+use Rattle.giving.proofs.Fronts.{over_at, take_over}
 use Rattle.giving.proofs.Places.{place_some, place_there}
 use Rattle.order.specs.declared.operation.Paired.{Paired}
 use Rattle.calls.specs.declared.certificate.Certificate.{Certificate}
-use Rattle.order.specs.Steps.{SeatRule, operation, rank_error, rank_errors, rank_errors_from, after_step, giving_after, lateness, passings_over, sum}
+use Rattle.order.specs.Steps.{operation, rank_error, rank_errors, rank_errors_from, after_step, giving_after, lateness, passings_over}
 use Rattle.order.specs.Times.{Instants, earliest}
 use Rattle.order.specs.Orders.{Placed, TrueOrder}
 use Rattle.order.proofs.AddUp.{add_up}
@@ -18,16 +21,14 @@ use Rattle.order.proofs.Earliest.{earliest_admits, earliest_below, length_earlie
 use Rattle.order.proofs.Splits.{step_by_step}
 use Rattle.order.proofs.Stretches.{shortest, only}
 use Rattle.giving.specs.Fronts.{over}
-use Rattle.calls.specs.Rules.{Buffers, numbers_from, largest_of, latenesses_of, certificate_of, written}
+use Rattle.calls.specs.Rules.{Buffers, largest_of, latenesses_of, certificate_of, written}
 use Rattle.calls.specs.Meanings.{Costs, Kept, Largest, Granted}
 use Rattle.order.proofs.Growing.{length_ranks, ranks_append}
-use Rattle.calls.proofs.Grants.{Long, length_values, sums}
+use Rattle.calls.proofs.Grants.{Long, sums}
 
 -- the largest of a list and its first place
 bounded : (xs : List ℕ) (j : ℕ) → j < length xs → get_or xs j 0 ≤ largest_of xs
-bounded [] j l = absurd (omega arith)
-bounded (x ∷ xs) zero l = omega arith
-bounded (x ∷ xs) (suc j) l = omega (arith, bounded xs j (omega arith))
+bounded xs j l = max_bounds largest_of (λ (x : ℕ). x) refl (λ _ _. refl) xs j 0 l
 
 attained : (xs : List ℕ) → 0 < length xs → (j : ℕ) × (j < length xs) × (get_or xs j 0 ≡ largest_of xs)
 attained [] l = absurd (omega arith)
@@ -35,6 +36,9 @@ attained (x ∷ []) l = (0, omega arith, omega arith)
 attained (x ∷ (y ∷ xs)) l =
     let h = attained (y ∷ xs) (omega arith) in
     ⊎_elim (λ q. (suc h.0, omega arith, omega (arith, h.2))) (λ q. (0, omega arith, omega arith)) (cases_lt x (largest_of (y ∷ xs)))
+
+pub largest_stands : (xs : List ℕ) → 0 < length xs → place (largest_of xs) xs < length xs
+largest_stands xs l = let a = attained xs l in place_some (largest_of xs) xs (times_at (largest_of xs) a.0 xs a.1 a.2)
 
 before_place : (m : ℕ) (xs : List ℕ) (j : ℕ) → j < place m xs → get_or xs j 0 ≡ m → ⊥
 before_place m [] j l e = omega arith
@@ -50,7 +54,7 @@ largest_is xs ys n e =
     let m : ℕ = largest_of xs in
     let i : ℕ = place m xs in
     let at : (j : ℕ) → j < n → get_or (xs ++ ys) j 0 ≡ get_or xs j 0 = λ j l. get_or-append xs ys 0 j (omega arith) in
-    let here : 0 < n → i < n = λ l. let a = attained xs (omega arith) in omega (arith, place_some m xs (times_at m a.0 xs a.1 a.2)) in
+    let here : 0 < n → i < n = λ l. omega (arith, largest_stands xs (omega arith)) in
     record {
       bound = λ j l. omega (arith, at j l, bounded xs j (omega arith));
       there = λ l. let h = here l in (h, at i h ∙ place_there m xs (omega arith));
@@ -86,11 +90,6 @@ both_least [] [] h g = refl
 both_least [] (y ∷ ys) h g = absurd h
 both_least (x ∷ xs) [] h g = absurd h
 both_least (x ∷ xs) (y ∷ ys) h g = let e : x ≡ y = omega arith in let r : xs ≡ ys = both_least xs ys h.1 g.1 in cc
-
-get_d_values : (f : ℕ → ℕ) (i n j : ℕ) → j < n → get_or (map f (numbers_from i n)) j 0 ≡ f (i + j)
-get_d_values f i zero j l = absurd (omega arith)
-get_d_values f i (suc n) zero l = ap f (sym (add-zero i))
-get_d_values f i (suc n) (suc j) l = get_d_values f (suc i) n j (omega arith) ∙ ap f (omega arith)
 
 -- records with equal fields
 same_certificate : (t m i t' m' i' : ℕ) → t ≡ t' → m ≡ m' → i ≡ i'
@@ -128,18 +127,18 @@ module _ (seat : SeatRule) (ops : List Paired) (k : ℕ) where
       let f : ℕ → ℕ = λ a. lateness seat ops a p in
       let nR : length R ≡ n = length_ranks seat ops p [] ∙ g.1 in
       let nE : length E ≡ n = length_earliest ops 0 p ∙ g.1 in
-      let nS : length S ≡ n = length_values f 0 n in
-      let tE : take n (over E b.instants) ≡ E = take_at E (drop (length E) b.instants) n nE in
+      let nS : length S ≡ n = length-map-range_with_len f 0 n in
+      let tE : take n (over E b.instants) ≡ E = take_over E b.instants n nE in
       let all : sum R ≡ passings_over seat ops p = add_up seat ops k p g.0 in
       let parts = sums seat ops k p t b in
       record {
         order = t;
         room = room;
         errors_by_step = λ u v x e.
-            subst (Costs seat ops u x) (sym (get_or-append R (drop (length R) b.ranks) 0 (length u) (omega (arith, before p u v x e, nR, g.1)))) (costs_at p u v x g.0 e);
+            subst (Costs seat ops u x) (sym (over_at R b.ranks (length u) (omega (arith, before p u v x e, nR, g.1)))) (costs_at p u v x g.0 e);
         instants = subst (Instants ops p) (sym tE) (earliest_admits ops 0 0 p t.timed.instants.0 (omega arith) t.timed.instants.1);
         least = λ ts i. subst (λ (l : List ℕ). AllZip ◌≤◌ l ts) (sym tE) (earliest_below ops 0 0 p ts (omega arith) i);
-        latenesses = λ a l. get_or-append S (drop (length S) b.latenesses) 0 a (omega (arith, nS)) ∙ (get_d_values f 0 n a l ∙ ap f (zero-add a));
+        latenesses = λ a l. over_at S b.latenesses a (omega (arith, nS)) ∙ get_or-map-range_with_len f 0 n a a 0 l (zero-add a);
         rest = (kept R b.ranks n nR room.0, kept E b.instants n nE room.1, kept S b.latenesses n nS room.2);
         total = all;
         total_of_ranks = all ∙ sym parts.0;
@@ -160,7 +159,7 @@ module _ (seat : SeatRule) (ops : List Paired) (k : ℕ) where
       let f : ℕ → ℕ = λ a. lateness seat ops a p in
       let nR : length R ≡ n = length_ranks seat ops p [] ∙ g.1 in
       let nE : length E ≡ n = length_earliest ops 0 p ∙ g.1 in
-      let nS : length S ≡ n = length_values f 0 n in
+      let nS : length S ≡ n = length-map-range_with_len f 0 n in
       let each-rank : (i : ℕ) → i < n → get_or w.ranks i 0 ≡ get_or R i 0 = λ i l.
       let u : List ℕ = take i p in
       let x : ℕ = get_or p i 0 in
@@ -177,7 +176,7 @@ module _ (seat : SeatRule) (ops : List Paired) (k : ℕ) where
       (earliest_below ops 0 0 p (take n w.instants) (omega arith) G.instants)) in
       let wS : w.latenesses ≡ over S b.latenesses =
       filled S b.latenesses w.latenesses n nS G.rest.2
-      (front S w.latenesses n nS (omega arith) (λ a l. G.latenesses a l ∙ sym (get_d_values f 0 n a l ∙ ap f (zero-add a)))) in
+      (front S w.latenesses n nS (omega arith) (λ a l. G.latenesses a l ∙ sym (get_or-map-range_with_len f 0 n a a 0 l (zero-add a)))) in
       let top = same_largest n (over R b.ranks) c.largest c.first (largest_of R) (place (largest_of R) R)
       (subst (λ (l : List ℕ). Largest n l c.largest c.first) wR G.largest) (largest_is R (drop (length R) b.ranks) n nR) in
       let all : c.total ≡ sum R = G.total ∙ sym (add_up seat ops k p g.0) in (

@@ -1,28 +1,28 @@
 -- Certificates are granted for true orders, and add up. Assumes nothing.
-use Rattle.std.proofs.Common.{◌≡◌, ℕ, zero, suc, ◌+◌, ◌<◌, ◌≤◌, Bool, true, false, cond, ◌||◌, ltb, ◌⊎◌, List, [], map, length, take, drop, is_ok, Some, None, Ok, Err, Option, Result, sym, refl, ap, ◌∙◌, inl, inr, ⊎_elim, add-zero, zero-add, arith, take_at}
+use Rattle.std.proofs.Common.{◌≡◌, ℕ, zero, suc, ◌+◌, ◌<◌, ◌≤◌, Bool, true, false, cond, ◌||◌, ltb, ◌⊎◌, List, [], map, length, take, is_ok, Some, None, Ok, Err, Option, Result, sym, refl, ap, ◌∙◌, inl, inr, ⊎_elim, zero-add, add-one, arith}
+use Rattle.std.specs.List.{sum, range_with_len}
+use Rattle.std.proofs.lemmas.List.FromFn.{length-map-range_with_len, sum_by-map-range_with_len_more}
 use Rattle.std.proofs.lemmas.Bool.{cond_both, cond-false, eqb-true, eqb-false, ltb-true, ltb-false, lt-ltb, le-ltb, or_from, or_cases, or_parts, or_left, or_right, both_ways}
-use Rattle.giving.specs.Lists.{times}
+use Rattle.giving.specs.Lists.{SeatRule, times}
+use Rattle.giving.proofs.Fronts.{take_over}
 use Rattle.order.specs.declared.operation.Paired.{Paired}
 use Rattle.calls.specs.declared.fault.DocketFault.{DocketFault}
 use Rattle.calls.specs.declared.fault.DocketFault.TheVariants.{BufferTooShort}
 use Rattle.calls.specs.declared.certificate.Certificate.{Certificate}
-use Rattle.order.specs.Steps.{SeatRule, rank_errors, sum, sum_below, lateness, passings_over}
+use Rattle.order.specs.Steps.{rank_errors, sum_below, lateness, passings_over}
 use Rattle.order.specs.Orders.{Placed, TrueOrder}
 use Rattle.order.proofs.Sums.{sum_below_times, sum_below_ones}
 use Rattle.order.proofs.Whole.{placed_of_true, true_of_placed, placed_known, placed_once}
 use Rattle.order.proofs.AddUp.{add_up}
-use Rattle.calls.specs.Rules.{Buffers, numbers_from, unplaced, missing, is_too_short, unless_missing, latenesses_of, certificate_of, certify_answer, written}
+use Rattle.calls.specs.Rules.{Buffers, unplaced, missing, is_too_short, unless_missing, latenesses_of, certificate_of, certify_answer, written}
 use Rattle.calls.proofs.Lowest.{Lowest, lowest_is, same_lowest}
 use Rattle.order.proofs.Growing.{length_ranks}
 
--- ---- the values of f at i, .., i + n - 1, and their sum
-pub length_values : (f : ℕ → ℕ) (i n : ℕ) → length (map f (numbers_from i n)) ≡ n
-length_values f i zero = refl
-length_values f i (suc n) = ap suc (length_values f (suc i) n)
-
-sum_values : (f : ℕ → ℕ) (i n : ℕ) → sum (map f (numbers_from i n)) + sum_below i f ≡ sum_below (i + n) f
-sum_values f i zero = omega (arith, ap (λ m. sum_below m f) (add-zero i))
-sum_values f i (suc n) = omega (arith, sum_values f (suc i) n, ap (λ m. sum_below m f) {x = suc i + n} {y = i + suc n} (omega arith))
+-- the sum of the values of f at 0, .., n - 1
+sum_values : (f : ℕ → ℕ) (n : ℕ) → sum (map f (range_with_len 0 n)) ≡ sum_below n f
+sum_values f zero = refl
+sum_values f (suc n) =
+    omega (arith, sum_values f n, sum_by-map-range_with_len_more (λ (x : ℕ). x) f 0 n n (zero-add n), ap (λ (m : ℕ). sum (map f (range_with_len 0 m))) (add-one n))
 
 -- ---- whether a buffer is too short
 abbrev pub Long : ℕ → Buffers → Type 0
@@ -126,7 +126,6 @@ module _ (seat : SeatRule) (ops : List Paired) (k : ℕ) (p : List ℕ) where
       let R : List ℕ = rank_errors seat ops p in
       let S : List ℕ = latenesses_of seat ops p in
       let f : ℕ → ℕ = λ a. lateness seat ops a p in (
-        ap sum (take_at R (drop (length R) b.ranks) (length ops) (length_ranks seat ops p [] ∙ g.1)) ∙ add_up seat ops k p g.0,
-        ap sum (take_at S (drop (length S) b.latenesses) (length ops) (length_values f 0 (length ops)))
-            ∙ omega (arith, sum_values f 0 (length ops), ap (λ m. sum_below m f) (zero-add (length ops))),
+        ap sum (take_over R b.ranks (length ops) (length_ranks seat ops p [] ∙ g.1)) ∙ add_up seat ops k p g.0,
+        ap sum (take_over S b.latenesses (length ops) (length-map-range_with_len f 0 (length ops))) ∙ sum_values f (length ops),
       )

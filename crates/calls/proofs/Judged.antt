@@ -1,12 +1,12 @@
 -- The answer to placing a step means what it says, and no other answer does. Assumes nothing.
 use Rattle.std.proofs.Common.{◌≡◌, ℕ, ◌<◌, Bool, true, false, cond, not, ◌&&◌, ltb, leb, List, length, Some, None, Ok, Err, Option, Result, sym, refl, ap, ◌∙◌, subst, ⊎_elim, arith}
 use Rattle.std.proofs.lemmas.Bool.{cond_both, cond-true, cond-false, leb-true, leb-false, le-leb, lt-leb, ltb-true, ltb-false, lt-ltb, le-ltb, eqb-true, eqb-false, eq-eqb, ne_eqb, not-true, not-false, not_from_true, not_from_false, and_parts, and_from, both_ways, cases_Bool}
-use Rattle.giving.specs.Lists.{times}
+use Rattle.giving.specs.Lists.{SeatRule, times}
 use Rattle.order.specs.declared.operation.Deed.{Deed}
 use Rattle.order.specs.declared.operation.Paired.{Paired}
 use Rattle.calls.specs.declared.fault.DocketFault.{DocketFault}
 use Rattle.calls.specs.declared.fault.DocketFault.TheVariants.{NoSuchOperation, PlacedAlready, TooEarly, NotHeld, AboveBound, NothingToLift, StepsMissing, BufferTooShort}
-use Rattle.order.specs.Steps.{SeatRule, operation, has_rank, rank_error, giving_after}
+use Rattle.order.specs.Steps.{operation, has_rank, rank_error, giving_after}
 use Rattle.order.specs.Times.{precedes}
 use Rattle.order.specs.Orders.{Acceptable}
 use Rattle.order.proofs.Stretches.{shortest, has_one, only}

@@ -1,9 +1,9 @@
 -- The law over every list of calls. Assumes nothing.
 use Rattle.std.proofs.Common.{◌≡◌, ℕ, List, [], ◌∷◌, ◌++◌, length, is_ok, None, Ok, Err, sym, ap, ◌∙◌, subst, ⊎_elim}
+use Rattle.giving.specs.Lists.{SeatRule}
 use Rattle.calls.specs.declared.fault.DocketFault.TheVariants.{AboveBound}
 use Rattle.calls.specs.declared.certificate.Certificate.{Certificate}
 use Rattle.order.specs.declared.operation.Paired.{Paired}
-use Rattle.order.specs.Steps.{SeatRule}
 use Rattle.order.specs.Orders.{Placed}
 use Rattle.order.proofs.AddUp.{add_up}
 use Rattle.order.proofs.InTime.{placed_in_time_order}

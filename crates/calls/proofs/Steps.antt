@@ -1,9 +1,9 @@
 -- Every call leaves placed steps. Assumes nothing.
 use Rattle.std.proofs.Common.{◌≡◌, ℕ, zero, suc, ◌+◌, ◌-◌, List, [], ◌∷◌, ◌++◌, length, take, Some, Ok, Err, Result, arith}
-use Rattle.giving.specs.Lists.{times}
+use Rattle.giving.specs.Lists.{SeatRule, times}
 use Rattle.order.specs.declared.operation.Paired.{Paired}
 use Rattle.calls.specs.declared.fault.DocketFault.{DocketFault}
-use Rattle.order.specs.Steps.{SeatRule, operation, after_step, giving_from, giving_after}
+use Rattle.order.specs.Steps.{operation, after_step, giving_from, giving_after}
 use Rattle.order.specs.Orders.{Acceptable, PlacedFrom, Placed}
 use Rattle.order.proofs.Splits.{same_times}
 use Rattle.calls.specs.Rules.{Run, joined, place_answer, run_of}

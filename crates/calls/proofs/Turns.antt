@@ -3,12 +3,12 @@ use Rattle.std.proofs.Common.{◌≡◌, ℕ, suc, ◌+◌, ◌-◌, ◌⊎◌, 
 use lib.Seq.{get_or_at, split_at}
 use Rattle.std.proofs.lemmas.List.{drop_all}
 use Rattle.std.proofs.lemmas.Bool.{cond-false, ne_eqb}
-use Rattle.giving.specs.Lists.{times}
+use Rattle.giving.specs.Lists.{SeatRule, times}
 use Rattle.giving.proofs.Counts.{times_append}
 use Rattle.order.specs.declared.operation.Paired.{Paired}
 use Rattle.calls.specs.declared.fault.DocketFault.{DocketFault}
 use Rattle.calls.specs.declared.fault.DocketFault.TheVariants.{NothingToLift}
-use Rattle.order.specs.Steps.{SeatRule, operation, after_step, giving_after}
+use Rattle.order.specs.Steps.{operation, after_step, giving_after}
 use Rattle.order.specs.Orders.{Acceptable, PlacedFrom, TrueOrder}
 use Rattle.order.proofs.Splits.{same_times}
 use Rattle.order.proofs.Whole.{placed_of_true}

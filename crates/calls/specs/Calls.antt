@@ -1,7 +1,7 @@
 -- Lists of calls: what each call answers, and which steps it leaves placed. Assumes nothing.
 use Rattle.std.specs.Prelude.{ℕ, List, [], ◌∷◌, Result}
+use Rattle.giving.specs.Lists.{SeatRule}
 use Rattle.order.specs.declared.operation.Paired.{Paired}
-use Rattle.order.specs.Steps.{SeatRule}
 use Rattle.calls.specs.declared.fault.DocketFault.{DocketFault}
 use Rattle.calls.specs.declared.fault.RefusalCode.{RefusalCode}
 use Rattle.calls.specs.declared.certificate.Certificate.{Certificate}

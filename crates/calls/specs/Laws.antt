@@ -1,7 +1,9 @@
 -- What holds after every list of calls on a newly opened docket. Assumes nothing.
 use Rattle.std.specs.Prelude.{◌≡◌, ℕ, true, false, ◌⊎◌, List, [], ◌∷◌, ◌++◌, length, is_ok, None, Ok, Err, Result, slice_index}
+use Rattle.std.specs.List.{sum}
+use Rattle.giving.specs.Lists.{SeatRule}
 use Rattle.order.specs.declared.operation.Paired.{Paired}
-use Rattle.order.specs.Steps.{SeatRule, rank_errors, passings_over, sum}
+use Rattle.order.specs.Steps.{rank_errors, passings_over}
 use Rattle.order.specs.Orders.{Placed, TrueOrder}
 use Rattle.order.specs.ByPlace.{InTimeOrder}
 use Rattle.calls.specs.declared.fault.DocketFault.{DocketFault}

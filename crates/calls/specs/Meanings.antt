@@ -1,9 +1,9 @@
 -- What an answer means, in the words of orders. Assumes nothing.
 use Rattle.std.specs.Prelude.{◌≡◌, ℕ, ◌<◌, ◌≤◌, true, List, [], ◌∷◌, ◌++◌, length, take, drop, Ok, Err, Result, slice_index}
-use Rattle.std.specs.List.{AllZip}
-use Rattle.giving.specs.Lists.{times}
+use Rattle.std.specs.List.{AllZip, sum}
+use Rattle.giving.specs.Lists.{SeatRule, times}
 use Rattle.order.specs.declared.operation.Paired.{Paired}
-use Rattle.order.specs.Steps.{SeatRule, operation, giving_after, lateness, passings_over, sum}
+use Rattle.order.specs.Steps.{operation, giving_after, lateness, passings_over}
 use Rattle.order.specs.Times.{precedes, Instants}
 use Rattle.order.specs.Orders.{Acceptable, TrueOrder}
 use Rattle.order.specs.Strict.{Stretch, ShortestStretch}

@@ -1,9 +1,10 @@
 -- The rules: what place, run, lift and certify answer and write, given the steps p placed before. Assumes nothing.
 use Rattle.std.specs.Prelude.{ℕ, zero, suc, ◌-◌, max, Bool, cond, not, ◌&&◌, ◌||◌, List, [], ◌∷◌, ◌++◌, map, length, take, Some, None, Ok, Err, Option, Result, ◌==◌, nat_le, nat_lt, slice_index}
+use Rattle.std.specs.List.{sum, range_with_len}
 use Rattle.giving.specs.Fronts.{over}
-use Rattle.giving.specs.Lists.{times, place}
+use Rattle.giving.specs.Lists.{SeatRule, times, place}
 use Rattle.order.specs.declared.operation.Paired.{Paired}
-use Rattle.order.specs.Steps.{SeatRule, operation, has_rank, rank_error, rank_errors, lateness, giving_after, sum}
+use Rattle.order.specs.Steps.{operation, has_rank, rank_error, rank_errors, lateness, giving_after}
 use Rattle.order.specs.Times.{precedes, earliest}
 use Rattle.calls.specs.declared.fault.DocketFault.{DocketFault}
 use Rattle.calls.specs.declared.fault.DocketFault.TheVariants.{NoSuchOperation, PlacedAlready, TooEarly, NotHeld, AboveBound, NothingToLift, StepsMissing, BufferTooShort}
@@ -80,11 +81,6 @@ pub record Buffers : Type 0 where
 abbrev pub over_each : Buffers → Buffers → Buffers
 over_each xs b = record { ranks = over xs.ranks b.ranks; instants = over xs.instants b.instants; latenesses = over xs.latenesses b.latenesses }
 
--- i, i + 1, .., i + n - 1
-abbrev pub numbers_from : ℕ → ℕ → List ℕ
-numbers_from i zero = []
-numbers_from i (suc n) = i ∷ numbers_from (suc i) n
-
 abbrev pub largest_of : List ℕ → ℕ
 largest_of [] = 0
 largest_of (x ∷ xs) = max x (largest_of xs)
@@ -109,7 +105,7 @@ unless_missing p None a = a
 module _ (seat : SeatRule) (ops : List Paired) where
   -- the lateness of each operation, in their order
   abbrev pub latenesses_of : List ℕ → List ℕ
-  latenesses_of p = map (λ a. lateness seat ops a p) (numbers_from 0 (length ops))
+  latenesses_of p = map (λ a. lateness seat ops a p) (range_with_len 0 (length ops))
 
   -- the three lists of a certificate: the rank errors and the instants of the steps, and the latenesses
   abbrev pub figures_of : List ℕ → Buffers

@@ -4,6 +4,7 @@ use Rattle.std.specs.Int.Digits.{number_from_digits}
 use Rattle.std.specs.List.{flat_map}
 use Rattle.std.specs.Option.{option_map, unwrap_or}
 use Rattle.std.specs.Result.{result_map_both}
+use Rattle.giving.specs.Lists.{SeatRule}
 use Rattle.refusal.specs.Wording.{refusal_line}
 use Rattle.item.specs.declared.fault.ItemFault.{ItemFault}
 use Rattle.item.specs.declared.item.Item.{Ghosts}
@@ -21,7 +22,7 @@ use Rattle.holder.specs.Meanings.{Meaning, meaning}
 use Rattle.turns.specs.declared.calls.HolderCall.{HolderCall}
 use Rattle.turns.specs.Calls.{call_answer, after}
 use Rattle.order.specs.declared.operation.Paired.{Paired}
-use Rattle.order.specs.Steps.{SeatRule, giving_after}
+use Rattle.order.specs.Steps.{giving_after}
 use Rattle.calls.specs.Calls.{Call, Answer, answers_for, placed_by}
 use Rattle.docket.specs.Pairs.{paired_all}
 use Rattle.examination.specs.Kinds.{seat_of}

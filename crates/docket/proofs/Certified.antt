@@ -1,15 +1,16 @@
 -- The certificate of a docket in agreement. Assumes nothing.
-use Rattle.std.proofs.Common.{◌≡◌, ℕ, ◌+◌, ◌<◌, Bool, true, false, cond, not, eqb, List, map, length, take, Some, None, Ok, Err, Option, Result, sym, ap, ◌∙◌, arith}
-use Rattle.std.proofs.lemmas.List.{length-take-le, get_or-take}
+use Rattle.std.proofs.Common.{◌≡◌, ℕ, ◌<◌, Bool, true, false, cond, not, eqb, List, length, take, Some, None, Ok, Err, Option, Result, sym, ap, ◌∙◌, arith}
+use Rattle.std.proofs.lemmas.List.{length-take-le, length-map, get_or-take, get_or-map}
+use Rattle.std.proofs.lemmas.List.FromFn.{fill_by_all}
 use Rattle.std.proofs.lemmas.Bool.{cond-true, cond-false}
 use Rattle.calls.specs.declared.certificate.Certificate.{Certificate}
 use Rattle.order.specs.Times.{earliest}
-use Rattle.giving.specs.Lists.{times}
-use Rattle.order.specs.Steps.{SeatRule, rank_errors, lateness}
+use Rattle.giving.specs.Lists.{SeatRule, times}
+use Rattle.order.specs.Steps.{rank_errors, lateness}
 use Rattle.calls.specs.declared.fault.DocketFault.{DocketFault}
 use Rattle.calls.specs.declared.fault.DocketFault.TheVariants.{StepsMissing, BufferTooShort}
 use Rattle.giving.specs.Fronts.{over}
-use Rattle.calls.specs.Rules.{missing, unless_missing, is_too_short, certify_answer, written, certificate_of, latenesses_of, numbers_from, Buffers, lowest, unplaced, summed_up}
+use Rattle.calls.specs.Rules.{missing, unless_missing, is_too_short, certify_answer, written, certificate_of, latenesses_of, Buffers, lowest, unplaced, summed_up}
 use Rattle.docket.specs.declared.entry.Entry.{Entry}
 use Rattle.docket.specs.declared.ledger.Ledger.{Ledger}
 use Rattle.docket.specs.Kept.{blank}
@@ -17,7 +18,6 @@ use Rattle.docket.specs.InAgreement.{ops_of, steps_of, InAgreement, three, lates
 use Rattle.docket.specs.Moves.{not_placed}
 use Rattle.docket.proofs.PlacedSteps.{lowest_ext}
 use Rattle.docket.proofs.Placing.{long_steps, long_ops, not_not}
-use Rattle.docket.proofs.Sums.{map_below}
 
 module _ (seat : SeatRule) (l : Ledger) where
   missing_same : lowest (not_placed l.entries) 0 l.count ≡ missing (ops_of l) (steps_of l)
@@ -29,12 +29,11 @@ module _ (seat : SeatRule) (l : Ledger) where
   lates_same : (L : List ℕ) (n : ℕ) → InAgreement seat L n l → lates_of l ≡ latenesses_of seat (ops_of l) (steps_of l)
   lates_same L n i =
       let few = length-take-le l.count l.entries (omega arith) in
-      map_below (λ a. lateness seat (ops_of l) a (steps_of l)) (λ e. e.late) 0 (take l.count l.entries)
+      let long : length (lates_of l) ≡ length (ops_of l) = length-map (take l.count l.entries) (λ (e : Entry). e.late) ∙ few ∙ sym (long_ops l) in
+      fill_by_all (λ a. lateness seat (ops_of l) a (steps_of l)) (lates_of l) (length (ops_of l)) 0 long
       (λ x h.
-      let xn : x < l.count = omega arith in
-      let z : x ≡ 0 + x = omega arith in
-      ap (λ (e : Entry). e.late) (get_or-take l.count l.entries x blank xn) ∙ i.lates x xn ∙ ap (λ (a : ℕ). lateness seat (ops_of l) a (steps_of l)) z)
-      ∙ ap (λ (m : ℕ). map (λ a. lateness seat (ops_of l) a (steps_of l)) (numbers_from 0 m)) (few ∙ sym (long_ops l))
+      let xn : x < l.count = omega (arith, long_ops l) in
+      get_or-map (λ (e : Entry). e.late) (take l.count l.entries) x blank 0 (omega arith) ∙ ap (λ (e : Entry). e.late) (get_or-take l.count l.entries x blank xn) ∙ i.lates x xn)
 
   abbrev chosen : Buffers → Option ℕ → Result Certificate DocketFault
   chosen b o = unless_missing (steps_of l) o (cond (is_too_short (length (ops_of l)) b) (Err (BufferTooShort (length (ops_of l)))) (Ok (certificate_of seat (ops_of l) (steps_of l))))

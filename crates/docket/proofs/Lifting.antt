@@ -1,10 +1,10 @@
 -- A step lifted. Assumes nothing.
 use Rattle.std.proofs.Common.{◌≡◌, ℕ, ◌+◌, ◌-◌, ◌<◌, ◌≤◌, false, List, [], ◌∷◌, ◌++◌, map, length, get_or, take, sym, refl, ap, ◌∙◌, arith}
 use Rattle.std.proofs.lemmas.List.{same_from_push}
-use Rattle.giving.specs.Lists.{times}
+use Rattle.giving.specs.Lists.{SeatRule, times}
 use Rattle.giving.proofs.Counts.{times_take}
 use Rattle.order.specs.declared.operation.Paired.{Paired}
-use Rattle.order.specs.Steps.{SeatRule, operation, rank_error, passes_over, giving_after, rank_errors, lateness, adds_in}
+use Rattle.order.specs.Steps.{operation, rank_error, passes_over, giving_after, rank_errors, lateness, adds_in}
 use Rattle.order.proofs.Sums.{passes_times}
 use Rattle.docket.specs.declared.entry.Entry.{Entry}
 use Rattle.docket.specs.declared.step.Step.{Step}

@@ -4,11 +4,11 @@ use Rattle.std.specs.List.{AllByRecursion, position}
 use Rattle.std.proofs.ByRecursion.{All-from_get_or}
 use Rattle.std.proofs.lemmas.List.{take_more_set, length-take-le, length-map, get_or-map, take-map, get_or-take}
 use Rattle.std.proofs.lemmas.Bool.{cases_lt, cases_Bool, le-leb, cond-true, cond-false}
-use Rattle.giving.specs.Lists.{times}
+use Rattle.giving.specs.Lists.{SeatRule, times}
 use Rattle.giving.proofs.Counts.{times_take}
 use Rattle.order.specs.declared.operation.Deed.{Deed}
 use Rattle.order.specs.declared.operation.Paired.{Paired}
-use Rattle.order.specs.Steps.{SeatRule, operation, has_rank, rank_error, after_step, passes_over, giving_after, rank_errors, lateness, items_added, adds_in}
+use Rattle.order.specs.Steps.{operation, has_rank, rank_error, after_step, passes_over, giving_after, rank_errors, lateness, items_added, adds_in}
 use Rattle.order.proofs.Sums.{passes_times}
 use Rattle.calls.specs.declared.fault.DocketFault.{DocketFault}
 use Rattle.calls.specs.declared.fault.DocketFault.TheVariants.{NoSuchOperation, PlacedAlready, NotHeld, AboveBound}

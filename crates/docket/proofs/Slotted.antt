@@ -3,11 +3,11 @@ use Rattle.std.proofs.Common.{◌≡◌, ℕ, ◌+◌, ◌<◌, List, [], ◌∷
 use Rattle.std.proofs.lemmas.List.{take_more, take_more_set, map_push, append_assoc, at_drop_more}
 use Rattle.std.specs.List.{AllZip}
 use Rattle.std.proofs.lemmas.List.Elements.{AllZip-push}
+use Rattle.giving.specs.Lists.{SeatRule}
 use Rattle.calls.specs.declared.certificate.Certificate.{Certificate}
 use Rattle.docket.specs.declared.slot.Slot.{Slot}
 use Rattle.calls.specs.Calls.{Call, Answer, answer_for, left_by, answers_for, placed_by}
 use Rattle.order.specs.declared.operation.Paired.{Paired}
-use Rattle.order.specs.Steps.{SeatRule}
 use Rattle.calls.specs.declared.fault.DocketFault.{DocketFault}
 use Rattle.docket.specs.declared.ledger.Ledger.{Ledger}
 use Rattle.docket.specs.InAgreement.{ops_of, steps_of}

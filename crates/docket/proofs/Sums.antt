@@ -1,96 +1,32 @@
--- Buffers written from the front, and what is summed later. Assumes nothing.
+-- What a certificate sums up of the steps. Assumes nothing.
 use Rattle.std.specs.Option.{unwrap_or}
-use Rattle.std.specs.List.{fold, sum_by, position, position_from}
-use Rattle.std.proofs.lemmas.Iterator.Adapters.{position_from-zero}
-use Rattle.std.proofs.Common.{Some, Option, ◌≡◌, ℕ, suc, ◌+◌, ◌<◌, ◌≤◌, max, true, false, eqb, List, [], ◌∷◌, ◌++◌, map, length, get_or, take, drop, set, sym, refl, ap, ◌∙◌, ⊎_elim, arith}
-use Rattle.std.proofs.lemmas.List.{drop_more, set_at, append_assoc, length_push, length-map, length-take-le, map_more}
-use Rattle.std.proofs.lemmas.Bool.{cases_lt, cases_eq, cases_Bool, eq-eqb, ne_eqb, eqb-false}
-use Rattle.order.specs.Times.{earliest_from}
+use Rattle.std.specs.List.{fold, sum, sum_by, position, position_or_len}
+use Rattle.std.proofs.lemmas.List.Sums.{sum-map}
+use Rattle.std.proofs.lemmas.List.Recursion.{is_position_or_len}
+use Rattle.std.proofs.Common.{◌≡◌, ℕ, suc, ◌+◌, ◌<◌, max, cond, eqb, ltb, List, [], ◌∷◌, length, Some, None, Option, sym, refl, ap, ◌∙◌, arith}
+use Rattle.std.proofs.lemmas.List.{length-map}
+use Rattle.std.proofs.lemmas.Bool.{cond-true, lt-ltb}
+use Rattle.std.proofs.lemmas.Bool.Decides.{nat_tests}
 use Rattle.giving.specs.Lists.{place}
-use Rattle.order.specs.declared.operation.Paired.{Paired}
-use Rattle.order.specs.Steps.{operation, sum}
-use Rattle.giving.specs.Fronts.{over}
-use Rattle.calls.specs.Rules.{largest_of, numbers_from, summed_up}
-use Rattle.docket.specs.declared.entry.Entry.{Entry}
+use Rattle.calls.specs.Rules.{largest_of, summed_up}
+use Rattle.calls.proofs.Filled.{largest_stands}
 use Rattle.calls.specs.declared.certificate.Certificate.{Certificate}
 use Rattle.docket.specs.declared.step.Step.{Step}
-use Rattle.docket.specs.Kept.{entry_of, ranks_in}
-
--- ---- a buffer with one more entry written
-pub over_push : (front buffer : List ℕ) (v : ℕ) → length front < length buffer → set (over front buffer) (length front) v ≡ over (front ++ v ∷ []) buffer
-over_push front buffer v h =
-    let n = length front in
-    let e : length (front ++ v ∷ []) ≡ n + 1 = length_push front v in
-    ap (λ (b : List ℕ). set (front ++ b) n v) (drop_more buffer n 0 h)
-    ∙ set_at front (get_or buffer n 0) (drop (n + 1) buffer) v n refl
-    ∙ sym (append_assoc front (v ∷ []) (drop (n + 1) buffer))
-    ∙ ap (λ (k : ℕ). (front ++ v ∷ []) ++ drop k buffer) (sym e)
-
--- a turn of a loop that writes: the front grows by the value written at its length
-pub over_more : (front next buffer bs : List ℕ) (i v w : ℕ) → length front ≡ i → i < length buffer → next ≡ front ++ w ∷ [] → v ≡ w → bs ≡ over front buffer → set bs i v ≡ over next buffer
-over_more front next buffer bs i v w n h e is was =
-    ap (λ (b : List ℕ). set b i v) was ∙ ap (λ (k : ℕ). set (over front buffer) k v) (sym n) ∙ over_push front buffer v (omega arith)
-    ∙ ap (λ (k : ℕ). over (front ++ k ∷ []) buffer) is ∙ ap (λ (f : List ℕ). over f buffer) (sym e)
-
--- the same, of what f says of the elements of a list
-module _ {X : Type 0} (f : X → ℕ) (d : X) (xs : List X) (buffer bs : List ℕ) (i : ℕ) where
-  pub over_map_more : i < length xs → length xs ≤ length buffer → bs ≡ over (map f (take i xs)) buffer → set bs i (f (get_or xs i d)) ≡ over (map f (take (i + 1) xs)) buffer
-  over_map_more h l was =
-      over_more (map f (take i xs)) (map f (take (i + 1) xs)) buffer bs i (f (get_or xs i d)) (f (get_or xs i d))
-      (length-map (take i xs) f ∙ length-take-le i xs (omega arith)) (omega arith) (map_more f xs i d h) refl was
-
--- ---- the least instants
-abbrev pub top : List Paired → ℕ → List ℕ → ℕ
-top ops m [] = m
-top ops m (x ∷ p) = top ops (max m (operation ops x).start) p
-
-pub top_push : (ops : List Paired) (m : ℕ) (p : List ℕ) (x : ℕ) → top ops m (p ++ x ∷ []) ≡ max (top ops m p) (operation ops x).start
-top_push ops m [] x = refl
-top_push ops m (y ∷ p) x = top_push ops (max m (operation ops y).start) p x
-
-pub earliest_push : (ops : List Paired) (m : ℕ) (p : List ℕ) (x : ℕ) → earliest_from ops m (p ++ x ∷ []) ≡ earliest_from ops m p ++ max (top ops m p) (operation ops x).start ∷ []
-earliest_push ops m [] x = refl
-earliest_push ops m (y ∷ p) x = ap (λ (l : List ℕ). max m (operation ops y).start ∷ l) (earliest_push ops (max m (operation ops y).start) p x)
-
--- ---- the sums
-total_from : (a : ℕ) (xs : List Step) → fold (λ n s. n + s.rank) a xs ≡ a + sum (ranks_in xs)
-total_from a [] = omega arith
-total_from a (x ∷ xs) = omega (arith, total_from (a + x.rank) xs)
+use Rattle.docket.specs.Kept.{ranks_in}
 
 largest_from : (a : ℕ) (xs : List Step) → fold (λ m s. max m s.rank) a xs ≡ max a (largest_of (ranks_in xs))
 largest_from a [] = omega arith
 largest_from a (x ∷ xs) = omega (arith, largest_from (max a x.rank) xs)
 
 -- the first step with a rank error that some step has
-first_from : (m i : ℕ) (xs : List Step) → place m (ranks_in xs) < length xs → position_from (λ s. eqb s.rank m) i xs ≡ Some (i + place m (ranks_in xs))
-first_from m i [] h = absurd (omega arith)
-first_from m i (x ∷ xs) h =
-    ⊎_elim
-    (λ (e : m ≡ x.rank).
-    let t : eqb m x.rank ≡ true = eq-eqb m x.rank e in
-    let u : eqb x.rank m ≡ true = eq-eqb x.rank m (sym e) in
-    let z : i ≡ i + 0 = omega arith in
-    rw (t, u) (ap Some z))
-    (λ (e : m ≡ x.rank → ⊥).
-    let t : eqb m x.rank ≡ false = ne_eqb m x.rank e in
-    let u : eqb x.rank m ≡ false = ne_eqb x.rank m (λ q. e (sym q)) in
-    let g : suc (place m (ranks_in xs)) < suc (length xs) = rw t at h in
-    let n : i + 1 + place m (ranks_in xs) ≡ i + suc (place m (ranks_in xs)) = omega arith in
-    rw (t, u) (first_from m (i + 1) xs (omega arith) ∙ ap Some n))
-    (cases_eq m x.rank)
+first_step : (m r n : ℕ) → cond (eqb m r) 0 (suc n) ≡ cond (eqb r m) 0 (1 + n)
+first_step m r n = grind (arith, nat_tests)
 
-largest_in : (x : ℕ) (xs : List ℕ) → place (largest_of (x ∷ xs)) (x ∷ xs) < length (x ∷ xs)
-largest_in x [] = let e : eqb (max x 0) x ≡ true = eq-eqb _ _ (omega arith) in rw e (omega arith)
-largest_in x (y ∷ ys) =
-    ⊎_elim
-    (λ (t : eqb (largest_of (x ∷ (y ∷ ys))) x ≡ true). rw t (omega arith))
-    (λ (t : eqb (largest_of (x ∷ (y ∷ ys))) x ≡ false).
-    let ne = eqb-false _ _ t in
-    let e : largest_of (x ∷ (y ∷ ys)) ≡ largest_of (y ∷ ys) = ⊎_elim (λ (q : x < largest_of (y ∷ ys)). omega arith) (λ (q : largest_of (y ∷ ys) ≤ x). absurd (ne (omega arith))) (cases_lt x (largest_of (y ∷ ys))) in
-    let h = largest_in y ys in
-    let k : place (largest_of (x ∷ (y ∷ ys))) (y ∷ ys) ≡ place (largest_of (y ∷ ys)) (y ∷ ys) = ap (λ (m : ℕ). place m (y ∷ ys)) e in
-    rw t (omega (arith, h, k)))
-    (cases_Bool (eqb (largest_of (x ∷ (y ∷ ys))) x))
+first_is : (m : ℕ) (xs : List Step) → place m (ranks_in xs) < length xs → position (λ s. eqb s.rank m) xs ≡ Some (place m (ranks_in xs))
+first_is m xs h =
+    let e : place m (ranks_in xs) ≡ position_or_len (λ s. eqb s.rank m) xs =
+    is_position_or_len (λ (ys : List Step). place m (ranks_in ys)) (λ s. eqb s.rank m) refl (λ x ys. first_step m x.rank (place m (ranks_in ys))) xs in
+    ap (λ (n : ℕ). cond (ltb n (length xs)) (Some n) None) (sym e) ∙ cond-true (ltb (place m (ranks_in xs)) (length xs)) (Some (place m (ranks_in xs))) None (lt-ltb _ _ h)
 
 -- what is summed up of the steps
 pub summed : (xs : List Step) (t m : ℕ) (f : Option ℕ) → t ≡ sum_by (λ s. s.rank) xs → m ≡ fold (λ n s. max n s.rank) 0 xs → f ≡ position (λ s. eqb s.rank m) xs
@@ -99,20 +35,11 @@ summed [] t m f a b c = ap (λ (v : ℕ). record { total = v; largest = m; first
     ∙ ap (λ (v : Option ℕ). record { total = 0; largest = 0; first = unwrap_or v 0 }) c
 summed (x ∷ xs) t m f a b c =
     let rs = ranks_in (x ∷ xs) in
-    let total : t ≡ sum rs = omega (arith, a, total_from 0 (x ∷ xs)) in
+    let total : t ≡ sum rs = a ∙ sym (sum-map (λ (s : Step). s.rank) (x ∷ xs)) in
     let large : m ≡ largest_of rs = omega (arith, b, largest_from 0 (x ∷ xs)) in
     let long = length-map (x ∷ xs) (λ (s : Step). s.rank) in
     let found : f ≡ Some (place (largest_of rs) rs) =
-    c ∙ ap (λ (v : ℕ). position (λ s. eqb s.rank v) (x ∷ xs)) large ∙ position_from-zero (λ s. eqb s.rank (largest_of rs)) (x ∷ xs)
-    ∙ first_from (largest_of rs) 0 (x ∷ xs) (omega (arith, largest_in x.rank (ranks_in xs))) ∙ (let z : 0 + place (largest_of rs) rs ≡ place (largest_of rs) rs = omega arith in ap Some z) in
+    c ∙ ap (λ (v : ℕ). position (λ s. eqb s.rank v) (x ∷ xs)) large ∙ first_is (largest_of rs) (x ∷ xs) (omega (arith, long, largest_stands rs (omega (arith, long)))) in
     ap (λ (v : ℕ). record { total = v; largest = m; first = unwrap_or f 0 }) total
     ∙ ap (λ (v : ℕ). record { total = sum rs; largest = v; first = unwrap_or f 0 }) large
     ∙ ap (λ (v : Option ℕ). record { total = sum rs; largest = largest_of rs; first = unwrap_or v 0 }) found
-
--- ---- the latenesses, as a list over the numbers
-pub map_below : (f : ℕ → ℕ) (F : Entry → ℕ) (i : ℕ) (es : List Entry) → ((x : ℕ) → x < length es → F (entry_of es x) ≡ f (i + x)) → map F es ≡ map f (numbers_from i (length es))
-map_below f F i [] h = refl
-map_below f F i (e ∷ es) h =
-    let a : F e ≡ f i = let z : i + 0 ≡ i = omega arith in h 0 (omega arith) ∙ ap f z in
-    ap (λ (y : ℕ). y ∷ map F es) a
-    ∙ ap (λ (l : List ℕ). f i ∷ l) (map_below f F (suc i) es (λ x l. let s : i + suc x ≡ suc i + x = omega arith in h (suc x) (omega arith) ∙ ap f s))

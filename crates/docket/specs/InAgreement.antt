@@ -1,7 +1,8 @@
 -- A docket's holder and ledger, in agreement with one another. Assumes nothing.
 use Rattle.std.specs.Prelude.{◌≡◌, ℕ, ◌<◌, List, map, take}
+use Rattle.giving.specs.Lists.{SeatRule}
 use Rattle.order.specs.declared.operation.Paired.{Paired}
-use Rattle.order.specs.Steps.{SeatRule, giving_after, rank_errors, lateness, adds_in}
+use Rattle.order.specs.Steps.{giving_after, rank_errors, lateness, adds_in}
 use Rattle.calls.specs.Rules.{Buffers}
 use Rattle.docket.specs.declared.entry.Entry.{Entry}
 use Rattle.docket.specs.declared.ledger.Ledger.{Ledger}

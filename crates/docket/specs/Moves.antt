@@ -1,9 +1,10 @@
 -- What the parts of a call do to the holder and the table, as they stand. Assumes nothing.
 use Rattle.std.specs.Prelude.{ℕ, ◌+◌, ◌-◌, ◌^◌, min, Bool, cond, not, ◌&&◌, List, [], ◌∷◌, Some, None, Ok, Err, Option, Result, nat_le, nat_lt, slice_set}
+use Rattle.giving.specs.Lists.{SeatRule}
 use Rattle.holder.specs.Meanings.{Meaning, after_add, after_take}
 use Rattle.order.specs.declared.operation.Deed.{Deed}
 use Rattle.order.specs.declared.operation.Deed.TheVariants.{Add, Take, TakeOfNone, FoundEmpty}
-use Rattle.order.specs.Steps.{SeatRule, has_rank, rank_error}
+use Rattle.order.specs.Steps.{has_rank, rank_error}
 use Rattle.calls.specs.declared.fault.DocketFault.{DocketFault}
 use Rattle.calls.specs.declared.fault.DocketFault.TheVariants.{NoSuchOperation, PlacedAlready, NotHeld, AboveBound}
 use Rattle.calls.specs.Rules.{unless_early}

@@ -1,7 +1,7 @@
 -- A certificate is granted exactly when the order is true.
 use Rattle.std.proofs.Common.{◌≡◌, ℕ, true, false, List, [], ◌∷◌, length, is_ok, Some, None, Ok, Err, Option, Result, sym, refl, ap, ◌∙◌, subst}
+use Rattle.giving.specs.Lists.{SeatRule}
 use Rattle.order.specs.declared.operation.Paired.{Paired}
-use Rattle.order.specs.Steps.{SeatRule}
 use Rattle.order.specs.Orders.{TrueOrder}
 use Rattle.refusal.specs.declared.Refusal.{Refusal}
 use Rattle.calls.specs.declared.certificate.Certificate.{Certificate}

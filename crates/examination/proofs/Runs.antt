@@ -1,7 +1,7 @@
 -- A run of a whole order, and what is certified after it.
 use Rattle.std.proofs.Common.{◌≡◌, ℕ, List, [], None, Result, sym, ap, ◌∙◌, ⊎_elim}
+use Rattle.giving.specs.Lists.{SeatRule}
 use Rattle.order.specs.declared.operation.Paired.{Paired}
-use Rattle.order.specs.Steps.{SeatRule}
 use Rattle.calls.specs.declared.certificate.Certificate.{Certificate}
 use Rattle.calls.specs.declared.fault.DocketFault.{DocketFault}
 use Rattle.calls.specs.Rules.{Run, run_of, Buffers, certify_answer, written}

@@ -1,9 +1,9 @@
 -- The strict objects by the number of their kind.
 use Rattle.std.specs.Prelude.{ℕ, cond, ◌==◌}
+use Rattle.giving.specs.Lists.{SeatRule}
 use Rattle.frame.specs.declared.kind.Kind.{Kind}
 use Rattle.frame.specs.declared.kind.Kind.TheVariants.{Queue, Stack, CountingQueue}
 use Rattle.holder.specs.Kinds.{queue_seat, stack_seat}
-use Rattle.order.specs.Steps.{SeatRule}
 
 -- the seat rule of a kind: 1 is the stack, 0 and 2 are queues
 abbrev pub seat_of : ℕ → SeatRule

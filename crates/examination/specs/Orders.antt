@@ -1,8 +1,8 @@
 -- What the examination of an order comes to, from nothing placed to a certificate or the first rule that is broken.
 use Rattle.std.specs.Prelude.{ℕ, List, [], Some, None, Ok, Err, Option, Result}
+use Rattle.giving.specs.Lists.{SeatRule}
 use Rattle.refusal.specs.declared.Refusal.{Refusal}
 use Rattle.order.specs.declared.operation.Paired.{Paired}
-use Rattle.order.specs.Steps.{SeatRule}
 use Rattle.calls.specs.declared.fault.DocketFault.{DocketFault}
 use Rattle.calls.specs.declared.certificate.Certificate.{Certificate}
 use Rattle.calls.specs.Faults.{docket_refusal}

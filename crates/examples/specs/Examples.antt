@@ -1,8 +1,8 @@
 -- The worked examples, about the definitions of orders and calls. Assumes nothing.
 use Rattle.std.specs.Prelude.{◌≡◌, ℕ, List, [], ◌∷◌, length, replicate, Some, None, Ok}
+use Rattle.giving.specs.Lists.{SeatRule}
 use Rattle.holder.specs.Kinds.{queue_seat, stack_seat}
 use Rattle.order.specs.declared.operation.Paired.{Paired}
-use Rattle.order.specs.Steps.{SeatRule}
 use Rattle.order.specs.Orders.{TrueOrder}
 use Rattle.calls.specs.declared.fault.DocketFault.{DocketFault}
 use Rattle.calls.specs.declared.fault.DocketFault.TheVariants.{TooEarly, NotHeld, AboveBound}

@@ -2,6 +2,7 @@
 use Rattle.std.proofs.Common.{ℕ, ◌+◌, ◌*◌, ◌<◌, min, Bool, cond, List, [], ◌∷◌, ◌++◌, length, take, drop, slice_index, Some, None, Ok, Err, Option, Result, IfSome, codes, arith, length-append, ◌==◌, nat_lt}
 use Rattle.std.proofs.lemmas.Bool.{cond_both}
 use Rattle.std.specs.Option.{option_map, unwrap_or}
+use Rattle.giving.specs.Lists.{SeatRule}
 use Rattle.refusal.specs.declared.Refusal.{Refusal}
 use Rattle.refusal.specs.Wording.{refusal_line}
 use Rattle.item.specs.declared.fault.ItemFault.{ItemFault}
@@ -17,7 +18,6 @@ use Rattle.trace.specs.Answers.{Said, read_answer}
 use Rattle.trace.specs.Faults.{entry_refusal, read_refusal}
 use Rattle.trace.specs.Reading.{Outcome, reading}
 use Rattle.trace.specs.Reading.Outcome.{unread, refused, accepted}
-use Rattle.order.specs.Steps.{SeatRule}
 use Rattle.calls.specs.declared.fault.DocketFault.{DocketFault}
 use Rattle.calls.specs.declared.fault.DocketFault.TheVariants.{StepsMissing}
 use Rattle.calls.specs.Faults.{docket_refusal}

@@ -1,4 +1,4 @@
--- Lists of codes: how often a code stands in one, where it stands first, and the list without it. Assumes nothing.
+-- Lists of codes: how often a code stands in one, where it stands first, the list without it, and where a new one goes in. Assumes nothing.
 use Rattle.std.specs.Prelude.{◌≡◌, ℕ, suc, ◌+◌, ◌≤◌, Bool, cond, List, [], ◌∷◌, Option, Some, None, length, ◌==◌, nat_lt}
 
 -- how often a stands in a list: a does not stand in it where that is 0
@@ -31,3 +31,7 @@ Once L = (a : ℕ) → times a L ≤ 1
 -- every code is below n
 abbrev pub Below : ℕ → List ℕ → Type 0
 Below n L = (a : ℕ) → n ≤ a → times a L ≡ 0
+
+-- where a new code goes in, by the list and the code
+abbrev pub SeatRule : Type 0
+SeatRule = List ℕ → ℕ → ℕ

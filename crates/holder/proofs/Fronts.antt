@@ -1,13 +1,8 @@
 -- A buffer whose front is written code by code, as far as a list and the buffer go. Assumes nothing.
 use Rattle.std.proofs.Common.{◌≡◌, ℕ, ◌+◌, ◌<◌, min, List, [], ◌∷◌, ◌++◌, length, get_or, take, drop, set, sym, ap, ◌∙◌, arith}
-use Rattle.std.proofs.lemmas.List.{drop_more, set_at, append_assoc, append-nil, length-take, length-take-le, take_more, take_min, drop_all}
+use Rattle.std.proofs.lemmas.List.{append-nil, length-take, length-take-le, take_more, take_min, drop_all}
+use Rattle.giving.proofs.Fronts.{front_push}
 use Rattle.holder.specs.Answers.{front_over}
-
--- with one more code
-pub front_push : (front buffer now : List ℕ) (i c : ℕ) → length front ≡ i → i < length buffer → now ≡ front ++ drop i buffer → set now i c ≡ (front ++ c ∷ []) ++ drop (i + 1) buffer
-front_push front buffer now i c n h was =
-    ap (λ (b : List ℕ). set b i c) was ∙ ap (λ (b : List ℕ). set (front ++ b) i c) (drop_more buffer i 0 h)
-    ∙ set_at front (get_or buffer i 0) (drop (i + 1) buffer) c i n ∙ sym (append_assoc front (c ∷ []) (drop (i + 1) buffer))
 
 -- the code at the next place of a list
 pub front_more : (L buffer now : List ℕ) (i c : ℕ) → i < length L → i < length buffer → c ≡ get_or L i 0 → now ≡ take i L ++ drop i buffer → set now i c ≡ take (i + 1) L ++ drop (i + 1) buffer

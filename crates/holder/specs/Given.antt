@@ -2,6 +2,7 @@
 use Rattle.std.proofs.Common.{ℕ, ◌-◌, [], ◌∷◌, reverse, refl, sym, arith, List}
 use Rattle.std.proofs.lemmas.List.{length-reverse, get_or-reverse, reverse-append, length-take-le}
 use Rattle.std.proofs.lemmas.List.Edits.{insert_end}
+use Rattle.giving.specs.Lists.{SeatRule}
 use Rattle.giving.proofs.Counts.{times_reverse, once_fewer, below_fewer}
 use Rattle.giving.proofs.Places.{stands_same, place_reverse, without_reverse}
 use Rattle.holder.specs.declared.row.Row.{Row}
@@ -35,7 +36,7 @@ back_laws = record {
 }
 
 -- what holds of a row holds of its giving list
-pub line_sound : (given : List ℕ → List ℕ) (seat : List ℕ → ℕ → ℕ) (across : ℕ → ℕ → ℕ) → EndLaws given seat across → (r : Row) → SoundGiving (given (row_list r)) r.added
+pub line_sound : (given : List ℕ → List ℕ) (seat : SeatRule) (across : ℕ → ℕ → ℕ) → EndLaws given seat across → (r : Row) → SoundGiving (given (row_list r)) r.added
 line_sound given seat across laws r =
     let L = row_list r in
     let n = length-take-le r.len r.codes (omega arith) in

@@ -1,5 +1,6 @@
 -- The kinds of strict object: the giving list of each, and its seat rule. Assumes nothing.
 use Rattle.std.specs.Prelude.{ℕ, List, reverse, length}
+use Rattle.giving.specs.Lists.{SeatRule}
 use Rattle.holder.specs.declared.line.Line.{Line}
 use Rattle.holder.specs.declared.queue.Front.{Front}
 use Rattle.holder.specs.Rows.{row_list}
@@ -11,12 +12,12 @@ queue_given L = L
 abbrev pub queue_list : Line Front → List ℕ
 queue_list q = queue_given (row_list q.row)
 
-abbrev pub queue_seat : List ℕ → ℕ → ℕ
+abbrev pub queue_seat : SeatRule
 queue_seat L c = length L
 
 -- a stack gives from the row's end, and a new code goes to the front
 abbrev pub stack_given : List ℕ → List ℕ
 stack_given L = reverse L
 
-abbrev pub stack_seat : List ℕ → ℕ → ℕ
+abbrev pub stack_seat : SeatRule
 stack_seat L c = 0

@@ -1,7 +1,7 @@
 // The interface of a strict object that holds codes.
 ghost use Rattle.std.specs.Prelude.{◌≡◌, ℕ, ◌+◌, ◌≤◌, min, List, [], length, is_ok, if◌then◌else◌};
 ghost use Rattle.std.specs.List.{insert};
-ghost use Rattle.giving.specs.Lists.{without};
+ghost use Rattle.giving.specs.Lists.{SeatRule, without};
 ghost use Rattle.holder.specs.Answers.{SoundGiving, add_answer, rank_answer, at_answer, take_answer, front_over};
 
 use crate::fault::HolderFault;
@@ -20,7 +20,7 @@ pub trait Holder: Sized {
     ghost adds: { Self → ℕ };
 
     // The seat rule: the place at which a new code goes in, fixed by the giving list and the code alone.
-    ghost seat: { List ℕ → ℕ → ℕ };
+    ghost seat: { SeatRule };
 
     // ---- reading: these leave the holder as it is
 

@@ -1,5 +1,6 @@
 // A line: a holder that gives the codes of its row from one end, and its type says from which: the queue and the stack.
 ghost use Rattle.std.specs.Prelude.{◌≡◌, ℕ, List, []};
+ghost use Rattle.giving.specs.Lists.{SeatRule};
 ghost use Rattle.holder.specs.Ends.{EndLaws};
 ghost use Rattle.holder.specs.Rows.{row_list};
 ghost use Rattle.holder.specs.Given.{line_sound};
@@ -15,7 +16,7 @@ pub trait End {
     ghost given: { List ℕ → List ℕ };
 
     // The seat of a new code, which comes in at the end of the row.
-    ghost seat: { List ℕ → ℕ → ℕ };
+    ghost seat: { SeatRule };
 
     // Where in a row of n codes the i-th of its giving list stands.
     ghost across: { ℕ → ℕ → ℕ };

@@ -1,15 +1,16 @@
 -- The rank errors of a placed order add up to its passings-over: both count the pairs of a step and an item that it passed over. Assumes nothing.
 use Rattle.std.proofs.Common.{◌≡◌, ℕ, ◌+◌, ◌<◌, ◌≤◌, cond, eqb, List, [], ◌∷◌, length, take, drop, sym, ap, ◌∙◌, arith, length-take-le}
 use mathlib.Core.Path.{fun_ext}
-use Rattle.std.specs.List.{AllByRecursion}
+use Rattle.std.specs.List.{AllByRecursion, sum}
+use Rattle.std.proofs.lemmas.List.Sums.{sum_by-cons}
 use Rattle.std.proofs.ByRecursion.{All-append, All-take, All-drop}
-use Rattle.giving.specs.Lists.{times}
+use Rattle.giving.specs.Lists.{SeatRule, times}
 use Rattle.giving.proofs.Counts.{times_insert, times_take, times_without, all_without, once_more}
 use Rattle.giving.proofs.Places.{place_le}
 use Rattle.order.specs.declared.operation.Deed.{Deed}
 use Rattle.order.specs.declared.operation.Deed.TheVariants.{Add, Take, TakeOfNone, FoundEmpty}
 use Rattle.order.specs.declared.operation.Paired.{Paired}
-use Rattle.order.specs.Steps.{SeatRule, operation, rank_error, after_step, passes_over, sum, sum_below, rank_errors_from, lateness_from, rank_errors, passings_over}
+use Rattle.order.specs.Steps.{operation, rank_error, after_step, passes_over, sum_below, rank_errors_from, lateness_from, rank_errors, passings_over}
 use Rattle.order.specs.Orders.{PlacedFrom, Placed}
 use Rattle.order.proofs.Sums.{passes_times, sum_below_zero, sum_below_add, sum_below_times}
 
@@ -46,7 +47,7 @@ module _ (seat : SeatRule) (ops : List Paired) (k : ℕ) where
       let rest : sum (rank_errors_from seat ops M p) ≡ sum_below (length ops) (λ a. lateness_from seat ops a M p) =
       counted p (x ∷ done) M (λ a. omega (arith, after_times seat x d L a, sub a)) (λ a. once_more a x done h.0.fresh (one a))
       (after_step_all seat x (λ a. a < length ops) d L h.0.known low) h.1 in
-      omega (arith, sum_below_add (length ops) (λ a. passes_over a r L) (λ a. lateness_from seat ops a M p), hits, rest)
+      omega (arith, sum_by-cons (λ (e : ℕ). e) r (rank_errors_from seat ops M p), sum_below_add (length ops) (λ a. passes_over a r L) (λ a. lateness_from seat ops a M p), hits, rest)
 
   pub add_up : (p : List ℕ) → Placed seat ops k p → sum (rank_errors seat ops p) ≡ passings_over seat ops p
   add_up p h = counted p [] [] (λ a. omega arith) (λ a. omega arith) tt h

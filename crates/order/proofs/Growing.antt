@@ -1,7 +1,8 @@
 -- What the steps u and then v come to, and one more step. Assumes nothing.
 use Rattle.std.proofs.Common.{◌≡◌, ℕ, suc, ◌+◌, List, [], ◌∷◌, ◌++◌, length, refl, ap, arith}
+use Rattle.giving.specs.Lists.{SeatRule}
 use Rattle.order.specs.declared.operation.Paired.{Paired}
-use Rattle.order.specs.Steps.{SeatRule, operation, rank_error, after_step, giving_from, rank_errors_from, lateness_from, adds_in}
+use Rattle.order.specs.Steps.{operation, rank_error, after_step, giving_from, rank_errors_from, lateness_from, adds_in}
 use Rattle.order.specs.Laws.{OneMore}
 
 pub adds_append : (ops : List Paired) (u v : List ℕ) → adds_in ops (u ++ v) ≡ adds_in ops u + adds_in ops v

@@ -1,8 +1,9 @@
 -- Instants by place, and orders that keep to the order of time. Assumes nothing.
 use Rattle.std.proofs.Common.{◌≡◌, ℕ, zero, suc, ◌<◌, ◌≤◌, max, List, [], ◌∷◌, length, get_or, refl, ap, arith}
 use Rattle.std.proofs.lemmas.Bool.{ltb-false, le-ltb}
+use Rattle.giving.specs.Lists.{SeatRule}
 use Rattle.order.specs.declared.operation.Paired.{Paired}
-use Rattle.order.specs.Steps.{SeatRule, operation}
+use Rattle.order.specs.Steps.{operation}
 use Rattle.order.specs.Times.{InstantsFrom, Instants, earliest_from, earliest}
 use Rattle.order.specs.Orders.{Placed}
 use Rattle.order.specs.ByPlace.{AtEachPlace, InTimeOrder}

@@ -1,12 +1,12 @@
 -- Only the item of an add can be late. Assumes nothing.
 use Rattle.std.proofs.Common.{◌≡◌, ℕ, cond, eqb, List, [], ◌∷◌, take, sym, refl, ap, ◌∙◌, arith}
 use Rattle.std.proofs.lemmas.Bool.{cond_both, eqb-true}
-use Rattle.giving.specs.Lists.{times}
+use Rattle.giving.specs.Lists.{SeatRule, times}
 use Rattle.giving.proofs.Counts.{times_insert, times_take, times_without}
 use Rattle.order.specs.declared.operation.Deed.{Deed}
 use Rattle.order.specs.declared.operation.Deed.TheVariants.{Add, Take, TakeOfNone, FoundEmpty}
 use Rattle.order.specs.declared.operation.Paired.{Paired}
-use Rattle.order.specs.Steps.{SeatRule, operation, rank_error, after_step, items_added, passes_over, lateness_from}
+use Rattle.order.specs.Steps.{operation, rank_error, after_step, items_added, passes_over, lateness_from}
 
 module _ (seat : SeatRule) (ops : List Paired) (a : ℕ) (none : items_added (operation ops a).deed ≡ 0) where
   another : (x : ℕ) → Add ≡ (operation ops x).deed → ◌≡◌ {A = ℕ} (cond (eqb a x) 1 0) 0

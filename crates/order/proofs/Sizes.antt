@@ -1,12 +1,13 @@
 -- How large the numbers of a placed order get. Assumes nothing.
 use Rattle.std.proofs.Common.{◌≡◌, ℕ, suc, ◌+◌, ◌*◌, ◌≤◌, eqb, List, [], ◌∷◌, length, take, drop, ap, suc-mul, arith, length-append, take-append-drop}
-use Rattle.std.specs.List.{insert}
+use Rattle.std.specs.List.{insert, sum}
+use Rattle.std.proofs.lemmas.List.Sums.{sum_by-cons}
 use Rattle.std.proofs.lemmas.Bool.{cond_both}
-use Rattle.giving.specs.Lists.{times, without}
+use Rattle.giving.specs.Lists.{SeatRule, times, without}
 use Rattle.order.specs.declared.operation.Deed.{Deed}
 use Rattle.order.specs.declared.operation.Deed.TheVariants.{Add, Take, TakeOfNone, FoundEmpty}
 use Rattle.order.specs.declared.operation.Paired.{Paired}
-use Rattle.order.specs.Steps.{SeatRule, operation, rank_error, after_step, items_added, passes_over, sum, giving_from, rank_errors_from, lateness_from, adds_in}
+use Rattle.order.specs.Steps.{operation, rank_error, after_step, items_added, passes_over, giving_from, rank_errors_from, lateness_from, adds_in}
 use Rattle.order.specs.Orders.{Placed, WithinBound}
 use Rattle.order.specs.Laws.{Sizes}
 use Rattle.order.proofs.Sums.{sum_below_times, sum_below_le}
@@ -54,7 +55,9 @@ module _ (seat : SeatRule) (ops : List Paired) where
 
   total_le : (k : ℕ) (p L : List ℕ) → WithinBound seat ops k L p → sum (rank_errors_from seat ops L p) ≤ length p * k
   total_le k [] L h = omega arith
-  total_le k (x ∷ p) L h = omega (arith, suc-mul (length p) k, total_le k p (after_step seat x (operation ops x).deed L) h.2)
+  total_le k (x ∷ p) L h =
+      let d : Deed = (operation ops x).deed in
+      omega (arith, suc-mul (length p) k, sum_by-cons (λ (r : ℕ). r) (rank_error d L) (rank_errors_from seat ops (after_step seat x d L) p), total_le k p (after_step seat x d L) h.2)
 
   pub sizes : (k : ℕ) (p : List ℕ) → Placed seat ops k p → Sizes seat ops k p
   sizes k p h =

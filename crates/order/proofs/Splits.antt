@@ -1,8 +1,8 @@
 -- Placed orders, by their steps in turn. Assumes nothing.
 use Rattle.std.proofs.Common.{◌≡◌, ℕ, ◌+◌, List, [], ◌∷◌, ◌++◌, refl, ap, subst, arith}
-use Rattle.giving.specs.Lists.{times}
+use Rattle.giving.specs.Lists.{SeatRule, times}
 use Rattle.order.specs.declared.operation.Paired.{Paired}
-use Rattle.order.specs.Steps.{SeatRule, operation, after_step, giving_from, giving_after}
+use Rattle.order.specs.Steps.{operation, after_step, giving_from, giving_after}
 use Rattle.order.specs.Orders.{Acceptable, PlacedFrom, Placed}
 use Rattle.order.specs.ByPlace.{StepByStep}
 

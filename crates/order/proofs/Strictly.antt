@@ -1,11 +1,11 @@
 -- The strict object is the case of bound 0. Assumes nothing.
 use Rattle.std.proofs.Common.{◌≡◌, ℕ, suc, ◌≤◌, true, false, eqb, List, [], ◌∷◌, sym, refl, arith}
 use Rattle.std.proofs.lemmas.Bool.{cond_both, eqb-true, ltb-true, both_ways}
-use Rattle.giving.specs.Lists.{place}
+use Rattle.giving.specs.Lists.{SeatRule, place}
 use Rattle.order.specs.declared.operation.Deed.{Deed}
 use Rattle.order.specs.declared.operation.Deed.TheVariants.{Add, Take, TakeOfNone, FoundEmpty}
 use Rattle.order.specs.declared.operation.Paired.{Paired}
-use Rattle.order.specs.Steps.{SeatRule, operation, has_rank, rank_error, after_step}
+use Rattle.order.specs.Steps.{operation, has_rank, rank_error, after_step}
 use Rattle.order.specs.Orders.{WithinBound, TrueOrder}
 use Rattle.order.specs.Strict.{Gives, Stretch, GivenStrictly, StrictOrder}
 use Rattle.order.proofs.Stretches.{shortest, has_one}

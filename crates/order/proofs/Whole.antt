@@ -2,10 +2,10 @@
 use Rattle.std.proofs.Common.{◌≡◌, ℕ, ◌+◌, ◌<◌, ◌≤◌, max, eqb, List, [], ◌∷◌, length, sym, refl, ap, ◌∙◌, arith}
 use Rattle.std.specs.List.{AllByRecursion}
 use Rattle.std.proofs.lemmas.Bool.{cond_both, cond-true, eqb-true, eq-eqb, le-ltb, ltb-false}
-use Rattle.giving.specs.Lists.{times}
+use Rattle.giving.specs.Lists.{SeatRule, times}
 use Rattle.giving.proofs.Counts.{once_more}
 use Rattle.order.specs.declared.operation.Paired.{Paired}
-use Rattle.order.specs.Steps.{SeatRule, operation, after_step}
+use Rattle.order.specs.Steps.{operation, after_step}
 use Rattle.order.specs.Times.{InstantsFrom, earliest_from, earliest}
 use Rattle.order.specs.Orders.{PlacedFrom, Placed, WithinBound, TrueOrder}
 use Rattle.order.proofs.Sums.{sum_below_times, sum_below_ones, sum_below_full}

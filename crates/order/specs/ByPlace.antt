@@ -1,7 +1,8 @@
 -- The definitions of orders and instants, said of each place of an order. Assumes nothing.
 use Rattle.std.specs.Prelude.{◌≡◌, ℕ, ◌<◌, ◌≤◌, false, List, ◌∷◌, ◌++◌, length, slice_index}
+use Rattle.giving.specs.Lists.{SeatRule}
 use Rattle.order.specs.declared.operation.Paired.{Paired}
-use Rattle.order.specs.Steps.{SeatRule, operation, giving_after}
+use Rattle.order.specs.Steps.{operation, giving_after}
 use Rattle.order.specs.Times.{precedes, Instants}
 use Rattle.order.specs.Orders.{Acceptable, Placed}
 

@@ -1,10 +1,10 @@
 -- The laws of orders, for every seat rule, all operations and every bound. Assumes nothing.
 use Rattle.std.specs.Prelude.{◌≡◌, ℕ, ◌+◌, ◌*◌, ◌≤◌, true, List, [], ◌∷◌, ◌++◌, length}
-use Rattle.std.specs.List.{AllZip}
+use Rattle.std.specs.List.{AllZip, sum}
 use Rattle.order.specs.declared.operation.Deed.{Deed}
 use Rattle.order.specs.declared.operation.Paired.{Paired}
-use Rattle.giving.specs.Lists.{times}
-use Rattle.order.specs.Steps.{SeatRule, operation, has_rank, rank_error, after_step, items_added, passes_over, giving_after, rank_errors, lateness, adds_in, sum, passings_over}
+use Rattle.giving.specs.Lists.{SeatRule, times}
+use Rattle.order.specs.Steps.{operation, has_rank, rank_error, after_step, items_added, passes_over, giving_after, rank_errors, lateness, adds_in, passings_over}
 use Rattle.order.specs.Times.{Instants, earliest}
 use Rattle.order.specs.Orders.{Placed, TrueOrder}
 use Rattle.order.specs.Strict.{Stretch, ShortestStretch, StrictOrder}

@@ -1,9 +1,9 @@
 -- Which steps may come next, and which orders are true. Assumes nothing.
 use Rattle.std.specs.Prelude.{◌≡◌, ℕ, ◌<◌, ◌≤◌, true, false, List, [], ◌∷◌, length}
 use Rattle.std.specs.List.{AllByRecursion}
-use Rattle.giving.specs.Lists.{times}
+use Rattle.giving.specs.Lists.{SeatRule, times}
 use Rattle.order.specs.declared.operation.Paired.{Paired}
-use Rattle.order.specs.Steps.{SeatRule, operation, has_rank, rank_error, after_step}
+use Rattle.order.specs.Steps.{operation, has_rank, rank_error, after_step}
 use Rattle.order.specs.Times.{precedes, Instants}
 
 -- the step x may come next, after the steps `done`, which left the giving list L

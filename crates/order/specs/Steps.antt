@@ -1,14 +1,10 @@
 -- The steps of an order: the giving list before and after each, its rank error, and what it passes over. Assumes nothing.
 use Rattle.std.specs.Prelude.{ℕ, zero, suc, ◌+◌, Bool, true, false, cond, List, [], ◌∷◌, length, take, ◌==◌, slice_index_or}
 use Rattle.std.specs.List.{insert}
-use Rattle.giving.specs.Lists.{times, place, stands, without}
+use Rattle.giving.specs.Lists.{SeatRule, times, place, stands, without}
 use Rattle.order.specs.declared.operation.Deed.{Deed}
 use Rattle.order.specs.declared.operation.Deed.TheVariants.{Add, Take, TakeOfNone, FoundEmpty}
 use Rattle.order.specs.declared.operation.Paired.{Paired}
-
--- where a new code goes in, by the giving list and the code
-abbrev pub SeatRule : Type 0
-SeatRule = List ℕ → ℕ → ℕ
 
 -- what stands past the last operation: no answer depends on it
 abbrev pub nothing : Paired
@@ -53,10 +49,6 @@ abbrev pub passes_over : ℕ → ℕ → List ℕ → ℕ
 passes_over a r L = cond (times a (take r L) == 0) 0 1
 
 -- ---- sums
-
-abbrev pub sum : List ℕ → ℕ
-sum [] = 0
-sum (x ∷ xs) = x + sum xs
 
 -- f 0 + .. + f (n - 1)
 abbrev pub sum_below : ℕ → (ℕ → ℕ) → ℕ

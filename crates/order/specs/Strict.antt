@@ -1,9 +1,10 @@
 -- What the strict object answers, and what must be removed for it to give a relaxed answer. Assumes nothing.
 use Rattle.std.specs.Prelude.{◌≡◌, ℕ, ◌≤◌, List, [], ◌∷◌, ◌++◌, length}
+use Rattle.giving.specs.Lists.{SeatRule}
 use Rattle.order.specs.declared.operation.Deed.{Deed}
 use Rattle.order.specs.declared.operation.Deed.TheVariants.{Add, Take, TakeOfNone, FoundEmpty}
 use Rattle.order.specs.declared.operation.Paired.{Paired}
-use Rattle.order.specs.Steps.{SeatRule, operation, after_step}
+use Rattle.order.specs.Steps.{operation, after_step}
 use Rattle.order.specs.Orders.{Timed}
 
 -- the strict object, holding M, gives the step's answer: it accepts every add, gives its first item only, and finds nothing only where it holds nothing

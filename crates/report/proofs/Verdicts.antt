@@ -1,12 +1,14 @@
 -- From the examination of an order to what is printed.
-use Rattle.std.proofs.Common.{◌≡◌, ℕ, zero, suc, ◌<◌, ◌≤◌, Bool, true, false, cond, List, [], ◌++◌, map, length, get_or, drop, is_ok, Some, None, Ok, Err, Option, Result, sym, refl, ap, ◌∙◌, arith}
-use lib.ListN.{length-map, get_or-append}
+use Rattle.std.proofs.Common.{◌≡◌, ℕ, zero, suc, ◌<◌, ◌≤◌, Bool, true, false, cond, List, [], ◌++◌, map, length, get_or, is_ok, Some, None, Ok, Err, Option, Result, sym, refl, ap, ◌∙◌, arith}
+use lib.ListN.{length-map}
+use Rattle.std.proofs.lemmas.List.FromFn.{length-map-range_with_len}
 use Rattle.std.specs.List.{slice_get}
+use Rattle.giving.specs.Lists.{SeatRule}
 use Rattle.refusal.specs.declared.Refusal.{Refusal}
 use Rattle.item.specs.declared.item.Item.{Ghosts}
 use Rattle.sheet.specs.declared.operation.Operation.{Operation}
 use Rattle.order.specs.declared.operation.Paired.{Paired}
-use Rattle.order.specs.Steps.{SeatRule, rank_errors, lateness}
+use Rattle.order.specs.Steps.{rank_errors, lateness}
 use Rattle.order.specs.Times.{earliest}
 use Rattle.order.specs.Orders.{TrueOrder}
 use Rattle.order.proofs.Growing.{length_ranks}
@@ -15,8 +17,9 @@ use Rattle.calls.specs.declared.fault.DocketFault.{DocketFault}
 use Rattle.calls.specs.declared.fault.DocketFault.TheVariants.{BufferTooShort}
 use Rattle.calls.specs.declared.certificate.Certificate.{Certificate}
 use Rattle.giving.specs.Fronts.{over}
+use Rattle.giving.proofs.Fronts.{over_at}
 use Rattle.calls.specs.Rules.{run_of, Buffers, is_too_short, latenesses_of, figures_of, certificate_of, certify_answer, written, unless_missing, missing}
-use Rattle.calls.proofs.Grants.{length_values, false_short}
+use Rattle.calls.proofs.Grants.{false_short}
 use Rattle.docket.specs.Pairs.{paired_all, paired_of}
 use Rattle.examination.specs.Orders.{unless_stopped, refused_as, order_answer, order_written}
 use Rattle.examination.proofs.Grants as order
@@ -29,19 +32,16 @@ up_to_same : (f g : ℕ → List ℕ) (n : ℕ) → ((s : ℕ) → s < n → f s
 up_to_same f g zero h = refl
 up_to_same f g (suc n) h = ap (λ z. z ++ f n) (up_to_same f g n (λ s l. h s (omega arith))) ∙ ap (λ z. up_to n g ++ z) (h n (omega arith))
 
-front : (xs b : List ℕ) (s : ℕ) → s < length xs → get_or (over xs b) s 0 ≡ get_or xs s 0
-front xs b s l = get_or-append xs (drop (length xs) b) 0 s l
-
 steps_front : (p rs ts b d : List ℕ) → length rs ≡ length p → length ts ≡ length p → lines_of_steps p (over rs b) (over ts d) ≡ lines_of_steps p rs ts
 steps_front p rs ts b d r t =
     up_to_same (step_at p (over rs b) (over ts d)) (step_at p rs ts) (length p)
     (λ s l.
-    ap (λ z. line_of_step s (get_or p s 0) z (get_or (over ts d) s 0)) (front rs b s (omega arith))
-    ∙ ap (λ z. line_of_step s (get_or p s 0) (get_or rs s 0) z) (front ts d s (omega arith)))
+    ap (λ z. line_of_step s (get_or p s 0) z (get_or (over ts d) s 0)) (over_at rs b s (omega arith))
+    ∙ ap (λ z. line_of_step s (get_or p s 0) (get_or rs s 0) z) (over_at ts d s (omega arith)))
 
 lates_front : {I : Type 0} (os : List (Operation I)) (ls b : List ℕ) → length ls ≡ length os → lines_of_lates os (over ls b) ≡ lines_of_lates os ls
 lates_front os ls b e =
-    up_to_same (late_at os (over ls b)) (late_at os ls) (length os) (λ s l. ap (λ z. late_of s z (slice_get os s)) (front ls b s (omega arith)))
+    up_to_same (late_at os (over ls b)) (late_at os ls) (length os) (λ s l. ap (λ z. late_of s z (slice_get os s)) (over_at ls b s (omega arith)))
 
 -- ---- the answer to an order, by way of buffers with an entry for each operation
 
@@ -52,7 +52,7 @@ module _ {I : Type 0} (t : Ghosts I) (seat : SeatRule) (os : List (Operation I))
   certificate_said : answering os k p (Ok (certificate_of seat ops p)) (written seat ops p b (Ok (certificate_of seat ops p))) ≡ granting os k p (certificate_of seat ops p) (figures_of seat ops p)
   certificate_said =
       let n : length (latenesses_of seat ops p) ≡ length os =
-      length_values (λ a. lateness seat ops a p) 0 (length ops)
+      length-map-range_with_len (λ a. lateness seat ops a p) 0 (length ops)
       ∙ length-map os (paired_of t.number os) in
       let end = line_of_certified k (certificate_of seat ops p) in
       ap (λ (z : List ℕ). record { text = z; granted = true })

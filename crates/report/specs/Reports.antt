@@ -1,5 +1,6 @@
 -- What is printed of a trace.
 use Rattle.std.specs.Prelude.{ℕ, Bool, true, false, List, [], ◌++◌, length, Some, None, Ok, Err, string_bytes, codes, Option, Result}
+use Rattle.giving.specs.Lists.{SeatRule}
 use Rattle.refusal.specs.declared.Refusal.{Refusal}
 use Rattle.refusal.specs.Wording.{refusal_line}
 use Rattle.item.specs.declared.item.Item.{Ghosts}
@@ -11,7 +12,6 @@ use Rattle.trace.specs.Faults.{entry_refusal}
 use Rattle.trace.specs.Reading.{Outcome, reading}
 use Rattle.trace.specs.Reading.Outcome.{unread, refused, accepted}
 use Rattle.order.specs.declared.operation.Paired.{Paired}
-use Rattle.order.specs.Steps.{SeatRule}
 use Rattle.calls.specs.declared.fault.DocketFault.{DocketFault}
 use Rattle.calls.specs.declared.fault.DocketFault.TheVariants.{StepsMissing}
 use Rattle.calls.specs.Faults.{docket_refusal}

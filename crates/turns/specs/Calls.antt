@@ -1,5 +1,6 @@
 -- What a holder answers to a list of calls, by its seat rule alone. Assumes nothing.
 use Rattle.std.specs.Prelude.{◌≡◌, ℕ, List, [], ◌∷◌, length, Option, Some, None, Ok, Err, Result}
+use Rattle.giving.specs.Lists.{SeatRule}
 use Rattle.turns.specs.declared.calls.HolderCall.{HolderCall}
 use Rattle.turns.specs.declared.calls.HolderCall.TheVariants.{Clear, Count, Rank, At, Add, Take}
 use Rattle.turns.specs.declared.calls.HolderTurn.{HolderTurn}
@@ -27,7 +28,7 @@ call_answer m (Add c) = done_answer (add_answer m.list m.count c)
 call_answer m (Take c) = done_answer (take_answer m.list c)
 
 -- what the holder stands for after a call
-abbrev pub after : (List ℕ → ℕ → ℕ) → Meaning → HolderCall → Meaning
+abbrev pub after : SeatRule → Meaning → HolderCall → Meaning
 after seat m Clear = meaning [] 0
 after seat m Count = m
 after seat m (Rank c) = m
@@ -36,16 +37,16 @@ after seat m (Add c) = after_add seat m c
 after seat m (Take c) = after_take m c
 
 -- and after all the calls
-abbrev pub after_all : (List ℕ → ℕ → ℕ) → Meaning → List HolderTurn → Meaning
+abbrev pub after_all : SeatRule → Meaning → List HolderTurn → Meaning
 after_all seat m [] = m
 after_all seat m (t ∷ ts) = after_all seat (after seat m t.call) ts
 
 -- the calls with their answers written beside them
-abbrev pub answered : (List ℕ → ℕ → ℕ) → Meaning → List HolderTurn → List HolderTurn
+abbrev pub answered : SeatRule → Meaning → List HolderTurn → List HolderTurn
 answered seat m [] = []
 answered seat m (t ∷ ts) = record { call = t.call; answer = call_answer m t.call } ∷ answered seat (after seat m t.call) ts
 
 -- the answers written beside the calls are the right ones
-abbrev pub Answered : (List ℕ → ℕ → ℕ) → Meaning → List HolderTurn → Type 0
+abbrev pub Answered : SeatRule → Meaning → List HolderTurn → Type 0
 Answered seat m [] = Unit {0}
 Answered seat m (t ∷ ts) = (t.answer ≡ call_answer m t.call) × Answered seat (after seat m t.call) ts

@@ -1,6 +1,6 @@
 use Rattle.std.proofs.Common.{ℕ, ◌+◌, List, ◌++◌, length, take, drop, sym, ap, ◌∙◌, arith}
 use Rattle.std.proofs.lemmas.List.{length-append, length_push}
-use Rattle.holder.proofs.Fronts.{front_push}
+use Rattle.giving.proofs.Fronts.{front_push}
 use Rattle.counting.specs.Slots.{codes}
 use Rattle.counting.specs.Codes.{codes_empty}
 use Rattle.counting.proofs.Fronts.{codes_split, codes_more, codes_same, codes_over}

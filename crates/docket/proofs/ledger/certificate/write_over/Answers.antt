@@ -1,5 +1,5 @@
 use Rattle.std.proofs.Common.{◌≡◌, get_or, set, refl, ap, ◌∙◌}
-use Rattle.docket.proofs.Sums.{over_map_more}
+use Rattle.docket.proofs.Fronts.{over_map_more}
 use Rattle.docket.proofs.ledger.certificate.write_over.Goals as goal
 
 pub loop-i-init : goal.loop-i-init
