@@ -1,7 +1,7 @@
 -- The header: 4 bits each of version, kind, item type and spare, then 16 bits each of count, k and spare.
 use Rattle.std.specs.Prelude.{ℕ, ◌+◌, ◌*◌, ◌/◌, ◌%◌, cond, not, List, ◌++◌, length, take, drop, Ok, Err, Result, ◌==◌, nat_lt}
 use Rattle.std.specs.Int.Digits.{number_from_digits}
-use Rattle.record.specs.Bytes.{big}
+use Rattle.record.specs.Bytes.{bytes_of_number}
 use Rattle.frame.specs.declared.fault.FrameFault.{FrameFault}
 use Rattle.frame.specs.declared.fault.FrameFault.TheVariants.{Short, Version, ItemType, SpareBit, Count, Length}
 use Rattle.frame.specs.declared.header.Header.{Header}
@@ -30,4 +30,4 @@ frame_of code bs =
 
 -- the 8 bytes of a header
 abbrev pub bytes_of_header : ℕ → ℕ → ℕ → ℕ → List ℕ
-bytes_of_header code kind count k = big 2 (4096 + kind * 256 + code * 16) ++ big 2 count ++ big 2 k ++ big 2 0
+bytes_of_header code kind count k = bytes_of_number 2 (4096 + kind * 256 + code * 16) ++ bytes_of_number 2 count ++ bytes_of_number 2 k ++ bytes_of_number 2 0

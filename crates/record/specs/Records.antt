@@ -8,7 +8,7 @@ use Rattle.sheet.specs.declared.operation.Method.TheVariants.{Add, Take, FoundEm
 use Rattle.sheet.specs.declared.operation.Operation.{Operation}
 use Rattle.record.specs.declared.fault.RecordFault.{RecordFault}
 use Rattle.record.specs.declared.fault.RecordFault.TheVariants.{NoSuchMethod, SpareBit, Item, ItemOnFoundEmpty}
-use Rattle.record.specs.Bytes.{big}
+use Rattle.record.specs.Bytes.{bytes_of_number}
 
 module _ {I : Type 0} where
   -- a method with the item that was named, or the item's fault
@@ -49,7 +49,7 @@ module _ {I : Type 0} (t : Ghosts I) where
 
   -- the 24 bytes that say an operation
   abbrev pub encode_record : Operation I → List ℕ
-  encode_record op = big 6 (word_of_method op.method) ++ big 2 op.thread ++ big 8 op.start ++ big 8 op.end
+  encode_record op = bytes_of_number 6 (word_of_method op.method) ++ bytes_of_number 2 op.thread ++ bytes_of_number 8 op.start ++ bytes_of_number 8 op.end
 
   abbrev pub FitMethod : Method I → Type 0
   FitMethod (Add x) = t.fit x

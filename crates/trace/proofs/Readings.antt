@@ -5,9 +5,9 @@ use Rattle.std.specs.List.{flat_map}
 use Rattle.item.specs.declared.item.Item.{Ghosts}
 use Rattle.item.specs.Items.{Lawful}
 use Rattle.sheet.specs.declared.operation.Operation.{Operation}
-use Rattle.record.specs.Bytes.{big, Bytes}
+use Rattle.record.specs.Bytes.{bytes_of_number, Bytes}
 use Rattle.record.specs.Records.{encode_record}
-use Rattle.record.proofs.Digits.{length_big, bytes_drop}
+use Rattle.record.proofs.Digits.{length_bytes, bytes_drop}
 use Rattle.record.proofs.Codec.{length_record}
 use Rattle.frame.specs.declared.fault.FrameFault.{FrameFault}
 use Rattle.frame.specs.declared.header.Header.{Header}
@@ -31,7 +31,7 @@ pub length_encode : {I : Type 0} (t : Ghosts I) (c : Contents I) → length c.or
 length_encode t c e =
     let a = length_header t.TYPE c.kind (length c.ops) c.k in
     let r = length_joined (encode_record t) 24 (length_record t) c.ops in
-    let o = length_joined (big 2) 2 (length_big 2) c.order in
+    let o = length_joined (bytes_of_number 2) 2 (length_bytes 2) c.order in
     rw (length-append, length-append) (omega arith)
 
 module _ {I : Type 0} (t : Ghosts I) (law : Lawful t) (room : ℕ) (bs : List ℕ) where
@@ -91,11 +91,11 @@ module _ {I : Type 0} (t : Ghosts I) (law : Lawful t) (room : ℕ) (bs : List �
   reading_there c v e =
       let n = length c.ops in
       let recs = flat_map (encode_record t) c.ops in
-      let ords = flat_map (big 2) c.order in
+      let ords = flat_map (bytes_of_number 2) c.order in
       let head = bytes_of_header t.TYPE c.kind n c.k in
       let lh = length_header t.TYPE c.kind n c.k in
       let lr = length_joined (encode_record t) 24 (length_record t) c.ops in
-      let lo = length_joined (big 2) 2 (length_big 2) c.order in
+      let lo = length_joined (bytes_of_number 2) 2 (length_bytes 2) c.order in
       let eq = v.ordered in
       let place = v.place in
       let enters = enters_of t law room [] c.ops tt v.fits v.consistent (omega arith) in
