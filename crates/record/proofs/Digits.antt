@@ -1,5 +1,5 @@
 -- Numbers and the bytes that say them.
-use Rattle.std.proofs.Common.{◌≡◌, ℕ, zero, suc, ◌+◌, ◌*◌, ◌/◌, ◌%◌, ◌^◌, ◌<◌, ◌≤◌, List, [], ◌∷◌, ◌++◌, length, get_or, take, drop, Fits, w8, sym, refl, ap, ◌∙◌, pow-suc, arith, length-append, length-take-le, take_all, take_at, drop_at}
+use Rattle.std.proofs.Common.{◌≡◌, ℕ, zero, suc, ◌+◌, ◌*◌, ◌/◌, ◌%◌, ◌^◌, ◌<◌, ◌≤◌, List, [], ◌∷◌, ◌++◌, length, get_or, take, drop, Fits, w8, sym, refl, ap, ◌∙◌, pow-suc, arith, length-drop, length-take, length-take-le, take_all, take_at, drop_at}
 use native.Mathlib.Nat.{pow-le-pow_right}
 use Rattle.std.proofs.lemmas.List.{take_more}
 use Rattle.std.specs.Int.Digits.{number_from_digits, number_from_digits_after}
@@ -7,7 +7,7 @@ use Rattle.std.specs.List.{fold}
 use Rattle.std.specs.Int.{byte_at, bytes_high_first}
 use Rattle.std.proofs.Math.Nat.{mul_comm, div-div-eq-div-mul}
 use Rattle.std.proofs.lemmas.Int.Digits.{number_push}
-use Rattle.record.specs.Bytes.{bytes_of_number, Bytes}
+use Rattle.record.specs.Bytes.{bytes_of_number, number_in, Bytes}
 
 -- ---- the bytes of a number, with one more at the end
 byte_above : (i n : ℕ) → byte_at (suc i) n ≡ byte_at i (n / 256)
@@ -77,6 +77,10 @@ bytes_back (suc w) xs b l =
       omega (arith, i.1),
     )
 
+-- what is written of a field is what was read
+pub field_back : (at w : ℕ) (bs : List ℕ) → Bytes bs → at + w ≤ length bs → (bytes_of_number w (number_in at w bs) ≡ take w (drop at bs)) × (number_in at w bs < 256 ^ w)
+field_back at w bs b l = bytes_back w (take w (drop at bs)) (bytes_take w (drop at bs) (bytes_drop at bs b)) (simp (length-take, length-drop) (omega arith))
+
 -- the running number of the bytes, modulo 2^64
 pub running : (r n : ℕ) (xs : List ℕ) → r ≡ n % 2 ^ 64 → fold (λ m b. (m * 256 % 2 ^ 64 + b) % 2 ^ 64) r xs ≡ number_from_digits_after 256 n xs % 2 ^ 64
 running r n [] e = e
@@ -98,6 +102,6 @@ with_four f p q r s = λ j. f (p j) (q j) (r j) (s j)
 
 -- what is read of a field is what was written
 pub field : (p w n : ℕ) (all front rest : List ℕ) → all ≡ front ++ (bytes_of_number w n ++ rest) → length front ≡ p → n < 256 ^ w →
-    number_from_digits 256 (take w (drop p all)) ≡ n
+    number_in p w all ≡ n
 field p w n all front rest e h l =
     rw (e, drop_at front (bytes_of_number w n ++ rest) p h, take_at (bytes_of_number w n) rest w (length_bytes w n)) (number_of_bytes w n l)
