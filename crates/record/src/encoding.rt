@@ -24,7 +24,7 @@ fn word_of<I: Item>(method: &Method<I>) -> u64
 }
 
 // The 24 bytes of a record's fields.
-fn lay_out(word: u64, thread: u16, start: u64, end: u64) -> RecordBytes
+fn bytes_of_fields(word: u64, thread: u16, start: u64, end: u64) -> RecordBytes
     ensures { result ≡ bytes_of_number 6 word ++ bytes_of_number 2 thread ++ bytes_of_number 8 start ++ bytes_of_number 8 end }
 {
     let mut bytes = [0; RECORD_LEN];
@@ -41,5 +41,5 @@ pub fn encode<I: Item>(op: &Operation<I>) -> RecordBytes
     ensures fit { Fit I.Item op.now }
     ensures says_the_operation { decode_record I.Item result ≡ Ok op.now }
 {
-    lay_out(word_of(&op.method), op.thread, op.start, op.end)
+    bytes_of_fields(word_of(&op.method), op.thread, op.start, op.end)
 }
