@@ -6,10 +6,11 @@ use Rattle.item.specs.declared.fault.ItemFault.{ItemFault}
 use Rattle.item.specs.Tickets.{ticket_items}
 use Rattle.item.specs.Stamps.{stamp_items}
 use Rattle.item.specs.Lanes.{lane_number, lane_named}
+use Rattle.record.specs.Bytes.{number_in}
 use Rattle.frame.specs.Kinds.{kind_number}
 use Rattle.examination.specs.Kinds.{any_kind, seat_of}
 use Rattle.comparison.specs.Words.{words_of_item}
-use Rattle.comparison.specs.Cases.{of_parts, number_in, number_again, item_told, item_case}
+use Rattle.comparison.specs.Cases.{of_parts, number_again, item_told, item_case}
 
 module _ (head count : ℕ) (body : List ℕ) (say : List ℕ → List ℕ → List ℕ) where
   -- where both parts are there

@@ -1,6 +1,5 @@
 -- What a case is answered, by its letter and its body: none where it is no such case.
 use Rattle.std.specs.Prelude.{ℕ, ◌+◌, ◌*◌, min, cond, List, [], ◌∷◌, ◌++◌, length, take, drop, replicate, slice_index, Some, None, Ok, Err, codes, Option, Result, ◌==◌, nat_lt}
-use Rattle.std.specs.Int.Digits.{number_from_digits}
 use Rattle.std.specs.List.{flat_map}
 use Rattle.std.specs.Option.{option_map, unwrap_or}
 use Rattle.std.specs.Result.{result_map_both}
@@ -12,6 +11,7 @@ use Rattle.item.specs.Tickets.{ticket_items}
 use Rattle.item.specs.Stamps.{stamp_items}
 use Rattle.item.specs.Lanes.{lane_number, lane_named}
 use Rattle.sheet.specs.declared.operation.Operation.{Operation}
+use Rattle.record.specs.Bytes.{number_in}
 use Rattle.frame.specs.Orders.{numbers_of}
 use Rattle.trace.specs.declared.fault.ReadFault.{ReadFault}
 use Rattle.trace.specs.Reading.{reading}
@@ -31,10 +31,6 @@ use Rattle.comparison.specs.Calls.{holder_calls, docket_calls}
 use Rattle.comparison.specs.Hashes.{hash_of}
 use Rattle.report.specs.Reports.{report_on}
 use Rattle.comparison.specs.Words.{words_of_answer, words_of_held, words_of_holder, words_of_item, words_of_reading, words_of_text, words_of_written}
-
--- the number that so many bytes of a body say from a place on
-abbrev pub number_in : ℕ → ℕ → List ℕ → ℕ
-number_in at width body = number_from_digits 256 (take width (drop at body))
 
 -- what is said of the two parts behind a head, of which the first has so many bytes; none where there are fewer
 abbrev pub of_parts : ℕ → ℕ → List ℕ → (List ℕ → List ℕ → List ℕ) → Option (List ℕ)

@@ -6,7 +6,7 @@ use Rattle.item.specs.Items.{Lawful}
 use Rattle.item.specs.Tickets.{ticket_items}
 use Rattle.item.specs.Stamps.{stamp_items}
 use Rattle.item.specs.StampNumbers.{stamp_there, stamp_back}
-use Rattle.record.specs.Bytes.{Bytes, big}
+use Rattle.record.specs.Bytes.{Bytes, bytes_of_number}
 use Rattle.trace.specs.Reading.{Outcome, reading}
 use Rattle.trace.specs.Reading.Outcome.{unread, refused, accepted}
 use Rattle.trace.proofs.Readings.{reading_back, reading_there}
@@ -29,7 +29,7 @@ lawful_stamps = record { coded = search rules; small = search rules; there = sta
 module _ {I : Type 0} (t : Ghosts I) where
   -- a true trace has a header that names its item type
   type_of_true : t.TYPE < 16 → (bs : List ℕ) → TrueTrace t bs → type_of bs ≡ t.TYPE
-  unfolding big
+  unfolding bytes_of_number
   type_of_true low bs h =
       let c = h.contents in
       let kind = h.sound.kind in

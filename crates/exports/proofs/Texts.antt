@@ -2,6 +2,7 @@
 use Rattle.std.proofs.Common.{ℕ, ◌+◌, ◌*◌, ◌<◌, min, Bool, cond, List, [], ◌∷◌, ◌++◌, length, take, drop, slice_index, Some, None, Ok, Err, Option, Result, IfSome, codes, arith, length-append, ◌==◌, nat_lt}
 use Rattle.std.proofs.lemmas.Bool.{cond_both}
 use Rattle.std.specs.Option.{option_map, unwrap_or}
+use Rattle.record.specs.Bytes.{number_in}
 use Rattle.giving.specs.Lists.{SeatRule}
 use Rattle.refusal.specs.declared.Refusal.{Refusal}
 use Rattle.refusal.specs.Wording.{refusal_line}
@@ -28,7 +29,7 @@ use Rattle.examination.specs.Traces.{type_of, by_type}
 use Rattle.report.specs.Lines.{lines_of_steps, lines_of_lates, line_of_certified}
 use Rattle.report.specs.Reports.{Verdict, refusing, whole, stopping, saying, report_on}
 use Rattle.comparison.specs.Calls.{docket_calls}
-use Rattle.comparison.specs.Cases.{number_in, of_parts, unless_unread, of_trace, words_of_readings, words_of_two_readings, words_of_writing, words_of_trace_written, item_told, item_case, holder_case, words_of_session, words_of_docket, case_told, case_answer}
+use Rattle.comparison.specs.Cases.{of_parts, unless_unread, of_trace, words_of_readings, words_of_two_readings, words_of_writing, words_of_trace_written, item_told, item_case, holder_case, words_of_session, words_of_docket, case_told, case_answer}
 use Rattle.comparison.specs.Words.{words_of_item, words_of_written}
 
 abbrev NotEmpty : List ℕ → Type 0

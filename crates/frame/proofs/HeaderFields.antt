@@ -1,10 +1,9 @@
 -- A header's bytes and its fields determine one another.
-use Rattle.std.proofs.Common.{◌≡◌, ℕ, ◌+◌, ◌*◌, ◌/◌, ◌%◌, ◌^◌, ◌<◌, ◌≤◌, false, cond, not, eqb, ltb, List, [], ◌++◌, length, take, drop, Ok, Err, Result, sym, refl, ap, ◌∙◌, append_assoc, arith, length-append, length-drop, length-take, take-add}
+use Rattle.std.proofs.Common.{◌≡◌, ℕ, ◌+◌, ◌*◌, ◌/◌, ◌%◌, ◌^◌, ◌<◌, ◌≤◌, false, cond, not, eqb, ltb, List, [], ◌++◌, length, take, drop, Ok, Err, Result, sym, refl, ap, ◌∙◌, append_assoc, arith, length-append, take-add}
 use Rattle.std.proofs.lemmas.Bool.Decides.{nat_tests}
-use Rattle.std.specs.Int.Digits.{number_from_digits}
 use Rattle.refusal.proofs.Checks.{passed, pass}
-use Rattle.record.specs.Bytes.{big, Bytes}
-use Rattle.record.proofs.Digits.{length_big, big_number, bytes_take, bytes_drop, field, with_four}
+use Rattle.record.specs.Bytes.{bytes_of_number, number_in, Bytes}
+use Rattle.record.proofs.Digits.{length_bytes, field, field_back, with_four}
 use Rattle.frame.specs.declared.fault.FrameFault.{FrameFault}
 use Rattle.frame.specs.declared.fault.FrameFault.TheVariants.{Short, Version, ItemType, SpareBit, Count, Length}
 use Rattle.frame.specs.declared.header.Header.{Header}
@@ -14,7 +13,7 @@ use Rattle.frame.specs.Kinds.{kind_number, kind_named}
 use Rattle.frame.proofs.KindNumbers.{named_number, number_small, number_named}
 
 pub length_header : (code kind n k : ℕ) → length (bytes_of_header code kind n k) ≡ 8
-length_header code kind n k = simp (length-append, length_big)
+length_header code kind n k = simp (length-append, length_bytes)
 
 -- the words of a header that is accepted
 record Words (code bytes word n k spare : ℕ) (h : Header) : Type 0 where
@@ -75,13 +74,13 @@ frame_there code n k kind rest c l m r =
     let small = number_small kind in
     let bs = bytes_of_header code number n k ++ rest in
     let len : length bs ≡ 8 + 26 * n = let p = length_header code number n k in rw length-append (omega arith) in
-    let w-is = field 0 2 (4096 + number * 256 + code * 16) bs [] (big 2 n ++ (big 2 k ++ (big 2 0 ++ rest))) (simp append_assoc) refl (omega arith) in
-    let n_is = field 2 2 n bs (big 2 (4096 + number * 256 + code * 16)) (big 2 k ++ (big 2 0 ++ rest)) (simp append_assoc) (length_big 2 (4096 + number * 256 + code * 16)) (omega arith) in
-    let k_is = field 4 2 k bs (big 2 (4096 + number * 256 + code * 16) ++ big 2 n) (big 2 0 ++ rest) (simp append_assoc) (simp (length-append, length_big)) (omega arith) in
-    let z-is = field 6 2 0 bs (big 2 (4096 + number * 256 + code * 16) ++ big 2 n ++ big 2 k) rest (simp append_assoc) (simp (length-append, length_big)) (omega arith) in
+    let w-is = field 0 2 (4096 + number * 256 + code * 16) bs [] (bytes_of_number 2 n ++ (bytes_of_number 2 k ++ (bytes_of_number 2 0 ++ rest))) (simp append_assoc) refl (omega arith) in
+    let n_is = field 2 2 n bs (bytes_of_number 2 (4096 + number * 256 + code * 16)) (bytes_of_number 2 k ++ (bytes_of_number 2 0 ++ rest)) (simp append_assoc) (length_bytes 2 (4096 + number * 256 + code * 16)) (omega arith) in
+    let k_is = field 4 2 k bs (bytes_of_number 2 (4096 + number * 256 + code * 16) ++ bytes_of_number 2 n) (bytes_of_number 2 0 ++ rest) (simp append_assoc) (simp (length-append, length_bytes)) (omega arith) in
+    let z-is = field 6 2 0 bs (bytes_of_number 2 (4096 + number * 256 + code * 16) ++ bytes_of_number 2 n ++ bytes_of_number 2 k) rest (simp append_assoc) (simp (length-append, length_bytes)) (omega arith) in
     let short : ltb (length bs) 8 ≡ false = grind (arith, nat_tests) in
-    ap (λ b. cond b (Err Short) (header_of code (length bs) (number_from_digits 256 (take 2 bs)) (number_from_digits 256 (take 2 (drop 2 bs))) (number_from_digits 256 (take 2 (drop 4 bs))) (number_from_digits 256 (take 2 (drop 6 bs))))) short
-    ∙ ap (λ m. header_of code m (number_from_digits 256 (take 2 bs)) (number_from_digits 256 (take 2 (drop 2 bs))) (number_from_digits 256 (take 2 (drop 4 bs))) (number_from_digits 256 (take 2 (drop 6 bs)))) len
+    ap (λ b. cond b (Err Short) (header_of code (length bs) (number_in 0 2 bs) (number_in 2 2 bs) (number_in 4 2 bs) (number_in 6 2 bs))) short
+    ∙ ap (λ m. header_of code m (number_in 0 2 bs) (number_in 2 2 bs) (number_in 4 2 bs) (number_in 6 2 bs)) len
     ∙ with_four (header_of code (8 + 26 * n)) w-is n_is k_is z-is
     ∙ words_there code n k kind c l
 
@@ -99,14 +98,14 @@ pub frame_back : (code : ℕ) (bs : List ℕ) (h : Header) → Bytes bs → fram
 frame_back code bs h b e =
     let a = passed (ltb (length bs) 8) Short _ h e in
     let l : 8 ≤ length bs = let q = a.0 in grind (arith, nat_tests) in
-    let r = words_back code (length bs) (number_from_digits 256 (take 2 bs)) (number_from_digits 256 (take 2 (drop 2 bs))) (number_from_digits 256 (take 2 (drop 4 bs))) (number_from_digits 256 (take 2 (drop 6 bs))) h a.1 in
-    let w = big_number 2 (take 2 bs) (bytes_take 2 bs b) (simp length-take (omega arith)) in
-    let n = big_number 2 (take 2 (drop 2 bs)) (bytes_take 2 (drop 2 bs) (bytes_drop 2 bs b)) (simp (length-take, length-drop) (omega arith)) in
-    let k = big_number 2 (take 2 (drop 4 bs)) (bytes_take 2 (drop 4 bs) (bytes_drop 4 bs b)) (simp (length-take, length-drop) (omega arith)) in
-    let z = big_number 2 (take 2 (drop 6 bs)) (bytes_take 2 (drop 6 bs) (bytes_drop 6 bs b)) (simp (length-take, length-drop) (omega arith)) in
+    let r = words_back code (length bs) (number_in 0 2 bs) (number_in 2 2 bs) (number_in 4 2 bs) (number_in 6 2 bs) h a.1 in
+    let w = field_back 0 2 bs b (omega arith) in
+    let n = field_back 2 2 bs b (omega arith) in
+    let k = field_back 4 2 bs b (omega arith) in
+    let z = field_back 6 2 bs b (omega arith) in
     let all : List ℕ → List ℕ → List ℕ → List ℕ → List ℕ = λ a b c d. a ++ b ++ c ++ d in
-    let whole : all (big 2 (4096 + kind_number h.kind * 256 + code * 16)) (big 2 h.count) (big 2 h.k) (big 2 0) ≡ take 8 bs =
-    with_four all (ap (big 2) (sym r.word_is) ∙ w.0) (ap (big 2) (sym r.count_is) ∙ n.0) (ap (big 2) (sym r.k_is) ∙ k.0) (ap (big 2) (sym r.no_spare) ∙ z.0)
+    let whole : all (bytes_of_number 2 (4096 + kind_number h.kind * 256 + code * 16)) (bytes_of_number 2 h.count) (bytes_of_number 2 h.k) (bytes_of_number 2 0) ≡ take 8 bs =
+    with_four all (ap (bytes_of_number 2) (sym r.word_is) ∙ w.0) (ap (bytes_of_number 2) (sym r.count_is) ∙ n.0) (ap (bytes_of_number 2) (sym r.k_is) ∙ k.0) (ap (bytes_of_number 2) (sym r.no_spare) ∙ z.0)
     ∙ eight bs in
     record {
       bytes = sym whole;

@@ -1,7 +1,6 @@
 -- The header: 4 bits each of version, kind, item type and spare, then 16 bits each of count, k and spare.
-use Rattle.std.specs.Prelude.{ℕ, ◌+◌, ◌*◌, ◌/◌, ◌%◌, cond, not, List, ◌++◌, length, take, drop, Ok, Err, Result, ◌==◌, nat_lt}
-use Rattle.std.specs.Int.Digits.{number_from_digits}
-use Rattle.record.specs.Bytes.{big}
+use Rattle.std.specs.Prelude.{ℕ, ◌+◌, ◌*◌, ◌/◌, ◌%◌, cond, not, List, ◌++◌, length, Ok, Err, Result, ◌==◌, nat_lt}
+use Rattle.record.specs.Bytes.{bytes_of_number, number_in}
 use Rattle.frame.specs.declared.fault.FrameFault.{FrameFault}
 use Rattle.frame.specs.declared.fault.FrameFault.TheVariants.{Short, Version, ItemType, SpareBit, Count, Length}
 use Rattle.frame.specs.declared.header.Header.{Header}
@@ -26,8 +25,8 @@ header_of code bytes word count k spare =
 abbrev pub frame_of : ℕ → List ℕ → Result Header FrameFault
 frame_of code bs =
     cond (nat_lt (length bs) 8) (Err Short)
-    (header_of code (length bs) (number_from_digits 256 (take 2 bs)) (number_from_digits 256 (take 2 (drop 2 bs))) (number_from_digits 256 (take 2 (drop 4 bs))) (number_from_digits 256 (take 2 (drop 6 bs))))
+    (header_of code (length bs) (number_in 0 2 bs) (number_in 2 2 bs) (number_in 4 2 bs) (number_in 6 2 bs))
 
 -- the 8 bytes of a header
 abbrev pub bytes_of_header : ℕ → ℕ → ℕ → ℕ → List ℕ
-bytes_of_header code kind count k = big 2 (4096 + kind * 256 + code * 16) ++ big 2 count ++ big 2 k ++ big 2 0
+bytes_of_header code kind count k = bytes_of_number 2 (4096 + kind * 256 + code * 16) ++ bytes_of_number 2 count ++ bytes_of_number 2 k ++ bytes_of_number 2 0

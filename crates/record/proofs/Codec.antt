@@ -1,8 +1,7 @@
 -- A record's bytes and its operation determine one another.
-use Rattle.std.proofs.Common.{◌≡◌, ℕ, zero, suc, ◌+◌, ◌*◌, ◌/◌, ◌%◌, ◌^◌, ◌<◌, ◌≤◌, cond, eqb, ltb, List, [], ◌++◌, length, take, drop, Ok, Err, Result, sym, refl, ap, ◌∙◌, subst, append_assoc, append-nil, arith, length-append, length-drop, length-take, take_all}
+use Rattle.std.proofs.Common.{◌≡◌, ℕ, zero, suc, ◌+◌, ◌*◌, ◌/◌, ◌%◌, ◌^◌, ◌<◌, ◌≤◌, cond, eqb, ltb, List, [], ◌++◌, length, take, drop, Ok, Err, Result, sym, refl, ap, ◌∙◌, subst, append_assoc, append-nil, arith, length-append, length-drop, take_all}
 use Rattle.std.proofs.lemmas.List.{drop-drop, take-append-drop}
 use Rattle.std.proofs.lemmas.Bool.Decides.{nat_tests}
-use Rattle.std.specs.Int.Digits.{number_from_digits as number}
 use Rattle.refusal.proofs.Checks.{passed}
 use Rattle.item.specs.declared.fault.ItemFault.{ItemFault}
 use Rattle.item.specs.declared.item.Item.{Ghosts}
@@ -12,12 +11,12 @@ use Rattle.sheet.specs.declared.operation.Method.TheVariants.{Add, Take, FoundEm
 use Rattle.sheet.specs.declared.operation.Operation.{Operation}
 use Rattle.record.specs.declared.fault.RecordFault.{RecordFault}
 use Rattle.record.specs.declared.fault.RecordFault.TheVariants.{NoSuchMethod, SpareBit, ItemOnFoundEmpty}
-use Rattle.record.specs.Bytes.{big, Bytes}
+use Rattle.record.specs.Bytes.{bytes_of_number, number_in, Bytes}
 use Rattle.record.specs.Records.{with_item, with_times, method_answer, method_said, operation_of, decode_record, word_of_method, encode_record, FitMethod, Fit}
-use Rattle.record.proofs.Digits.{length_big, big_number, bytes_take, bytes_drop, field, with_four}
+use Rattle.record.proofs.Digits.{length_bytes, field, field_back, with_four}
 
 pub length_record : {I : Type 0} (t : Ghosts I) (op : Operation I) → length (encode_record t op) ≡ 24
-length_record t op = simp (length-append, length_big)
+length_record t op = simp (length-append, length_bytes)
 
 -- 24 bytes in their four parts
 parts : (bs : List ℕ) → take 6 bs ++ take 2 (drop 6 bs) ++ take 8 (drop 8 bs) ++ drop 16 bs ≡ bs
@@ -33,7 +32,7 @@ parts bs =
 
 -- the operation of a record whose method is sound
 pub decoded : {I : Type 0} (t : Ghosts I) (bs : List ℕ) (word th s e : ℕ) (m : Method I) →
-    word ≡ number 256 (take 6 bs) → th ≡ number 256 (take 2 (drop 6 bs)) → s ≡ number 256 (take 8 (drop 8 bs)) → e ≡ number 256 (take 8 (drop 16 bs)) →
+    word ≡ number_in 0 6 bs → th ≡ number_in 6 2 bs → s ≡ number_in 8 8 bs → e ≡ number_in 16 8 bs →
     Ok m ≡ method_said t word → Ok (record { method = m; thread = th; start = s; end = e }) ≡ decode_record t bs
 decoded t bs word th s e m p q r v d = ap (with_times th s e) d ∙ with_four (operation_of t) p q r v
 
@@ -64,18 +63,18 @@ module _ {I : Type 0} (t : Ghosts I) (law : Lawful t) where
   -- an operation's bytes say that operation
   pub record_there : (op : Operation I) → Fit t op → decode_record t (encode_record t op) ≡ Ok op
   record_there op f =
-      let a = big 6 (word_of_method t op.method) in
-      let b = big 2 op.thread in
-      let c = big 8 op.start in
-      let d = big 8 op.end in
+      let a = bytes_of_number 6 (word_of_method t op.method) in
+      let b = bytes_of_number 2 op.thread in
+      let c = bytes_of_number 8 op.start in
+      let d = bytes_of_number 8 op.end in
       let wb = word_bound op.method f.method in
       let tb = f.thread in
       let sb = f.start in
       let eb = f.end in
       let i = field 0 6 (word_of_method t op.method) (a ++ b ++ c ++ d) [] (b ++ (c ++ d)) (simp append_assoc) refl (omega arith) in
-      let j = field 6 2 op.thread (a ++ b ++ c ++ d) a (c ++ d) (simp append_assoc) (length_big 6 (word_of_method t op.method)) (omega arith) in
-      let s = field 8 8 op.start (a ++ b ++ c ++ d) (a ++ b) d (simp append_assoc) (simp (length-append, length_big)) (omega arith) in
-      let e = field 16 8 op.end (a ++ b ++ c ++ d) (a ++ b ++ c) [] (simp (append_assoc, append-nil)) (simp (length-append, length_big)) (omega arith) in
+      let j = field 6 2 op.thread (a ++ b ++ c ++ d) a (c ++ d) (simp append_assoc) (length_bytes 6 (word_of_method t op.method)) (omega arith) in
+      let s = field 8 8 op.start (a ++ b ++ c ++ d) (a ++ b) d (simp append_assoc) (simp (length-append, length_bytes)) (omega arith) in
+      let e = field 16 8 op.end (a ++ b ++ c ++ d) (a ++ b ++ c) [] (simp (append_assoc, append-nil)) (simp (length-append, length_bytes)) (omega arith) in
       with_four (operation_of t) i j s e ∙ word_there op.method op.thread op.start op.end f.method
 
   -- an item that was named goes with its method
@@ -131,14 +130,14 @@ module _ {I : Type 0} (t : Ghosts I) (law : Lawful t) where
   -- the operation that 24 bytes say is written as those bytes
   pub record_back : (bs : List ℕ) (op : Operation I) → Bytes bs → length bs ≡ 24 → decode_record t bs ≡ Ok op → (encode_record t op ≡ bs) × Fit t op
   record_back bs op b l e =
-      let r = word_back (number 256 (take 6 bs)) (number 256 (take 2 (drop 6 bs))) (number 256 (take 8 (drop 8 bs))) (number 256 (take 8 (drop 16 bs))) op e in
-      let w = big_number 6 (take 6 bs) (bytes_take 6 bs b) (simp length-take (omega arith)) in
-      let j = big_number 2 (take 2 (drop 6 bs)) (bytes_take 2 (drop 6 bs) (bytes_drop 6 bs b)) (simp (length-take, length-drop) (omega arith)) in
-      let s = big_number 8 (take 8 (drop 8 bs)) (bytes_take 8 (drop 8 bs) (bytes_drop 8 bs b)) (simp (length-take, length-drop) (omega arith)) in
-      let d = big_number 8 (take 8 (drop 16 bs)) (bytes_take 8 (drop 16 bs) (bytes_drop 16 bs b)) (simp (length-take, length-drop) (omega arith)) in
+      let r = word_back (number_in 0 6 bs) (number_in 6 2 bs) (number_in 8 8 bs) (number_in 16 8 bs) op e in
+      let w = field_back 0 6 bs b (omega arith) in
+      let j = field_back 6 2 bs b (omega arith) in
+      let s = field_back 8 8 bs b (omega arith) in
+      let d = field_back 16 8 bs b (omega arith) in
       let all : List ℕ → List ℕ → List ℕ → List ℕ → List ℕ = λ a b c d. a ++ b ++ c ++ d in
-      let whole : all (big 6 (word_of_method t op.method)) (big 2 op.thread) (big 8 op.start) (big 8 op.end) ≡ bs =
-      with_four all (ap (big 6) r.0 ∙ w.0) (ap (big 2) r.2 ∙ j.0) (ap (big 8) r.3 ∙ s.0)
-      (ap (big 8) r.4 ∙ d.0 ∙ take_all 8 (drop 16 bs) (simp length-drop (omega arith)))
+      let whole : all (bytes_of_number 6 (word_of_method t op.method)) (bytes_of_number 2 op.thread) (bytes_of_number 8 op.start) (bytes_of_number 8 op.end) ≡ bs =
+      with_four all (ap (bytes_of_number 6) r.0 ∙ w.0) (ap (bytes_of_number 2) r.2 ∙ j.0) (ap (bytes_of_number 8) r.3 ∙ s.0)
+      (ap (bytes_of_number 8) r.4 ∙ d.0 ∙ take_all 8 (drop 16 bs) (simp length-drop (omega arith)))
       ∙ parts bs in
       (whole, record { method = r.1; thread = omega (arith, r.2, j.1); start = omega (arith, r.3, s.1); end = omega (arith, r.4, d.1) })

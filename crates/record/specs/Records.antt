@@ -1,6 +1,5 @@
 -- A record: 2 bits of method, 6 spare bits, 40 of item, 16 of thread, 64 of start and 64 of end, the highest first.
-use Rattle.std.specs.Prelude.{ℕ, ◌+◌, ◌*◌, ◌/◌, ◌%◌, ◌^◌, ◌<◌, cond, List, ◌++◌, take, drop, Ok, Err, Result, ◌==◌, nat_lt}
-use Rattle.std.specs.Int.Digits.{number_from_digits}
+use Rattle.std.specs.Prelude.{ℕ, ◌+◌, ◌*◌, ◌/◌, ◌%◌, ◌^◌, ◌<◌, cond, List, ◌++◌, Ok, Err, Result, ◌==◌, nat_lt}
 use Rattle.item.specs.declared.fault.ItemFault.{ItemFault}
 use Rattle.item.specs.declared.item.Item.{Ghosts}
 use Rattle.sheet.specs.declared.operation.Method.{Method}
@@ -8,7 +7,7 @@ use Rattle.sheet.specs.declared.operation.Method.TheVariants.{Add, Take, FoundEm
 use Rattle.sheet.specs.declared.operation.Operation.{Operation}
 use Rattle.record.specs.declared.fault.RecordFault.{RecordFault}
 use Rattle.record.specs.declared.fault.RecordFault.TheVariants.{NoSuchMethod, SpareBit, Item, ItemOnFoundEmpty}
-use Rattle.record.specs.Bytes.{big}
+use Rattle.record.specs.Bytes.{bytes_of_number, number_in}
 
 module _ {I : Type 0} where
   -- a method with the item that was named, or the item's fault
@@ -38,8 +37,7 @@ module _ {I : Type 0} (t : Ghosts I) where
 
   -- what the 24 bytes of a record say
   abbrev pub decode_record : List ℕ → Result (Operation I) RecordFault
-  decode_record bs =
-      operation_of (number_from_digits 256 (take 6 bs)) (number_from_digits 256 (take 2 (drop 6 bs))) (number_from_digits 256 (take 8 (drop 8 bs))) (number_from_digits 256 (take 8 (drop 16 bs)))
+  decode_record bs = operation_of (number_in 0 6 bs) (number_in 6 2 bs) (number_in 8 8 bs) (number_in 16 8 bs)
 
   -- the first 48 bits of a method
   abbrev pub word_of_method : Method I → ℕ
@@ -49,7 +47,7 @@ module _ {I : Type 0} (t : Ghosts I) where
 
   -- the 24 bytes that say an operation
   abbrev pub encode_record : Operation I → List ℕ
-  encode_record op = big 6 (word_of_method op.method) ++ big 2 op.thread ++ big 8 op.start ++ big 8 op.end
+  encode_record op = bytes_of_number 6 (word_of_method op.method) ++ bytes_of_number 2 op.thread ++ bytes_of_number 8 op.start ++ bytes_of_number 8 op.end
 
   abbrev pub FitMethod : Method I → Type 0
   FitMethod (Add x) = t.fit x

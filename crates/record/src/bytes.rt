@@ -1,5 +1,6 @@
-ghost use Rattle.std.specs.Prelude.{◌≡◌, ◌%◌, ◌^◌, ◌<◌, ◌≤◌, length, take, drop};
+ghost use Rattle.std.specs.Prelude.{◌≡◌, ◌%◌, ◌^◌, ◌<◌, ◌≤◌, length};
 ghost use Rattle.std.specs.Int.Digits.{number_from_digits};
+ghost use Rattle.record.specs.Bytes.{number_in};
 
 // The number that the bytes say, the highest byte first. Of more than eight bytes the last eight count.
 pub fn big_endian(bytes: &[u8]) -> u64
@@ -13,8 +14,8 @@ pub fn big_endian(bytes: &[u8]) -> u64
 
 // The number that `width` bytes say from byte `at` on, as far as there are bytes.
 pub fn number_at(bytes: &[u8], at: usize, width: usize) -> u64
-    ensures value { result ≡ number_from_digits 256 (take width (drop at bytes.now)) % 2 ^ 64 }
-    ensures narrow { width ≤ 8 → (result ≡ number_from_digits 256 (take width (drop at bytes.now))) × (result < 256 ^ width) }
+    ensures value { result ≡ number_in at width bytes.now % 2 ^ 64 }
+    ensures narrow { width ≤ 8 → (result ≡ number_in at width bytes.now) × (result < 256 ^ width) }
 {
     let rest = &bytes[at.min(bytes.len())..];
     big_endian(&rest[..width.min(rest.len())])

@@ -1,5 +1,5 @@
 ghost use Rattle.std.specs.Prelude.{◌≡◌, ◌++◌, Ok};
-ghost use Rattle.record.specs.Bytes.{big};
+ghost use Rattle.record.specs.Bytes.{bytes_of_number};
 ghost use Rattle.record.specs.Records.{decode_record, encode_record, word_of_method, FitMethod, Fit};
 
 use item::item::Item;
@@ -24,8 +24,8 @@ fn word_of<I: Item>(method: &Method<I>) -> u64
 }
 
 // The 24 bytes of a record's fields.
-fn lay_out(word: u64, thread: u16, start: u64, end: u64) -> RecordBytes
-    ensures { result ≡ big 6 word ++ big 2 thread ++ big 8 start ++ big 8 end }
+fn bytes_of_fields(word: u64, thread: u16, start: u64, end: u64) -> RecordBytes
+    ensures { result ≡ bytes_of_number 6 word ++ bytes_of_number 2 thread ++ bytes_of_number 8 start ++ bytes_of_number 8 end }
 {
     let mut bytes = [0; RECORD_LEN];
     bytes[..6].copy_from_slice(&word.to_be_bytes()[2..]);
@@ -41,5 +41,5 @@ pub fn encode<I: Item>(op: &Operation<I>) -> RecordBytes
     ensures fit { Fit I.Item op.now }
     ensures says_the_operation { decode_record I.Item result ≡ Ok op.now }
 {
-    lay_out(word_of(&op.method), op.thread, op.start, op.end)
+    bytes_of_fields(word_of(&op.method), op.thread, op.start, op.end)
 }

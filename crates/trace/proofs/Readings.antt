@@ -5,9 +5,9 @@ use Rattle.std.specs.List.{flat_map}
 use Rattle.item.specs.declared.item.Item.{Ghosts}
 use Rattle.item.specs.Items.{Lawful}
 use Rattle.sheet.specs.declared.operation.Operation.{Operation}
-use Rattle.record.specs.Bytes.{big, Bytes}
+use Rattle.record.specs.Bytes.{bytes_of_number, Bytes}
 use Rattle.record.specs.Records.{encode_record}
-use Rattle.record.proofs.Digits.{length_big, bytes_drop}
+use Rattle.record.proofs.Digits.{length_bytes, bytes_drop}
 use Rattle.record.proofs.Codec.{length_record}
 use Rattle.frame.specs.declared.fault.FrameFault.{FrameFault}
 use Rattle.frame.specs.declared.header.Header.{Header}
@@ -31,17 +31,17 @@ pub length_encode : {I : Type 0} (t : Ghosts I) (c : Contents I) → length c.or
 length_encode t c e =
     let a = length_header t.TYPE c.kind (length c.ops) c.k in
     let r = length_joined (encode_record t) 24 (length_record t) c.ops in
-    let o = length_joined (big 2) 2 (length_big 2) c.order in
+    let o = length_joined (bytes_of_number 2) 2 (length_bytes 2) c.order in
     rw (length-append, length-append) (omega arith)
 
 module _ {I : Type 0} (t : Ghosts I) (law : Lawful t) (room : ℕ) (bs : List ℕ) where
   -- the bytes are those of sound contents
-  pub record Right (c : Contents I) : Type 0 where
+  pub record SoundBytes (c : Contents I) : Type 0 where
     pub sound : Sound t room c
     pub bytes : bs ≡ encode t c
 
   going_back : (h : Header) (os : List (Operation I)) → Bytes bs → frame_of t.TYPE bs ≡ Ok h → run t room bs h.count ≡ going os →
-      Right (contents (kind_number h.kind) h.k os (numbers_of h.count (drop (8 + 24 * h.count) bs)))
+      SoundBytes (contents (kind_number h.kind) h.k os (numbers_of h.count (drop (8 + 24 * h.count) bs)))
   going_back h os b e r =
       let f = frame_back t.TYPE bs h b e in
       let n = h.count in
@@ -74,28 +74,28 @@ module _ {I : Type 0} (t : Ghosts I) (law : Lawful t) (room : ℕ) (bs : List �
       }
 
   ended_back : (h : Header) (c : Contents I) (r : Run I) → Bytes bs → frame_of t.TYPE bs ≡ Ok h → run t room bs h.count ≡ r →
-      ended h bs r ≡ accepted c → Right c
+      ended h bs r ≡ accepted c → SoundBytes c
   ended_back h c (going os) b e r p =
       let q : contents (kind_number h.kind) h.k os (numbers_of h.count (drop (8 + 24 * h.count) bs)) ≡ c = cc in
-      subst Right q (going_back h os b e r)
+      subst SoundBytes q (going_back h os b e r)
   ended_back h c (stopped os i f) b e r p = absurd cc
 
-  framed_back : (c : Contents I) (r : Result Header FrameFault) → Bytes bs → frame_of t.TYPE bs ≡ r → framed t room bs r ≡ accepted c → Right c
+  framed_back : (c : Contents I) (r : Result Header FrameFault) → Bytes bs → frame_of t.TYPE bs ≡ r → framed t room bs r ≡ accepted c → SoundBytes c
   framed_back c (Ok h) b e p = ended_back h c (run t room bs h.count) b e refl p
   framed_back c (Err f) b e p = absurd cc
 
-  pub reading_back : (c : Contents I) → Bytes bs → reading t room bs ≡ accepted c → Right c
+  pub reading_back : (c : Contents I) → Bytes bs → reading t room bs ≡ accepted c → SoundBytes c
   reading_back c b p = framed_back c (frame_of t.TYPE bs) b refl p
 
   pub reading_there : (c : Contents I) → Sound t room c → bs ≡ encode t c → reading t room bs ≡ accepted c
   reading_there c v e =
       let n = length c.ops in
       let recs = flat_map (encode_record t) c.ops in
-      let ords = flat_map (big 2) c.order in
+      let ords = flat_map (bytes_of_number 2) c.order in
       let head = bytes_of_header t.TYPE c.kind n c.k in
       let lh = length_header t.TYPE c.kind n c.k in
       let lr = length_joined (encode_record t) 24 (length_record t) c.ops in
-      let lo = length_joined (big 2) 2 (length_big 2) c.order in
+      let lo = length_joined (bytes_of_number 2) 2 (length_bytes 2) c.order in
       let eq = v.ordered in
       let place = v.place in
       let enters = enters_of t law room [] c.ops tt v.fits v.consistent (omega arith) in
@@ -125,20 +125,9 @@ accepted_of {I} (Ok a) (accepted c) old os e h =
     ap (λ d. accepted d) q
 
 module _ {I : Type 0} (t : Ghosts I) (law : Lawful t) (room : ℕ) (bs : List ℕ) where
-  right_answer : Bytes bs → (r : Result Accepted ReadFault) (old os : List (Operation I)) → shown r ≡ read_answer (reading t room bs) → os ≡ sheet_after old (reading t room bs) →
-      IfOk r (λ a. Right t law room bs (contents_of a os))
-  right_answer b (Err f) old os e h = tt
-  right_answer b (Ok a) old os e h = reading_back t law room bs (contents_of a os) b (accepted_of (Ok a) (reading t room bs) old os e h)
-
-  pub sound_answer : Bytes bs → (r : Result Accepted ReadFault) (old os : List (Operation I)) → shown r ≡ read_answer (reading t room bs) → os ≡ sheet_after old (reading t room bs) →
-      IfOk r (λ a. Sound t room (contents_of a os))
-  sound_answer b (Err f) old os e h = tt
-  sound_answer b (Ok a) old os e h = (right_answer b (Ok a) old os e h).sound
-
-  pub encoded_answer : Bytes bs → (r : Result Accepted ReadFault) (old os : List (Operation I)) → shown r ≡ read_answer (reading t room bs) → os ≡ sheet_after old (reading t room bs) →
-      IfOk r (λ a. bs ≡ encode t (contents_of a os))
-  encoded_answer b (Err f) old os e h = tt
-  encoded_answer b (Ok a) old os e h = (right_answer b (Ok a) old os e h).bytes
+  pub right_answer : Bytes bs → (a : Accepted) (old os : List (Operation I)) → Ok (said a) ≡ read_answer (reading t room bs) → os ≡ sheet_after old (reading t room bs) →
+      SoundBytes t law room bs (contents_of a os)
+  right_answer b a old os e h = reading_back t law room bs (contents_of a os) b (accepted_of (Ok a) (reading t room bs) old os e h)
 
   pub exact_answer : (r : Result Accepted ReadFault) (old os : List (Operation I)) → shown r ≡ read_answer (reading t room bs) → os ≡ sheet_after old (reading t room bs) →
       (c : Contents I) → Sound t room c → bs ≡ encode t c → (shown r ≡ Ok (saying_of c)) × (os ≡ c.ops)

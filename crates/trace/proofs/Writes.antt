@@ -6,7 +6,7 @@ use Rattle.item.specs.declared.item.Item.{Ghosts}
 use Rattle.item.specs.Items.{Lawful}
 use Rattle.sheet.specs.Consistency.{Consistent}
 use Rattle.sheet.specs.declared.operation.Operation.{Operation}
-use Rattle.record.specs.Bytes.{big}
+use Rattle.record.specs.Bytes.{bytes_of_number}
 use Rattle.record.specs.Records.{encode_record}
 use Rattle.record.proofs.Codec.{length_record}
 use Rattle.frame.specs.Headers.{bytes_of_header}
@@ -65,7 +65,7 @@ pub whole : {I : Type 0} (t : Ghosts I) (code kind k : ℕ) (ops : List (Operati
     head ≡ bytes_of_header code kind (length ops) k →
     o₁ ≡ take 0 mem ++ head ++ drop (0 + length head) mem →
     o₂ ≡ take 8 o₁ ++ flat_map (encode_record t) ops ++ drop (8 + 24 * length ops) o₁ →
-    o₃ ≡ take (8 + 24 * length ops) o₂ ++ flat_map (big 2) order ++ drop (8 + 24 * length ops + 2 * length order) o₂ →
+    o₃ ≡ take (8 + 24 * length ops) o₂ ++ flat_map (bytes_of_number 2) order ++ drop (8 + 24 * length ops + 2 * length order) o₂ →
     o₃ ≡ encode t (contents kind k ops order) ++ drop (8 + 26 * length ops) mem
 whole t code kind k ops order head mem o₁ o₂ o₃ same e h p q r =
     let hd : head ≡ bytes_of_header t.TYPE kind (length ops) k = h ∙ ap (λ c. bytes_of_header c kind (length ops) k) same in
@@ -74,9 +74,9 @@ whole t code kind k ops order head mem o₁ o₂ o₃ same e h p q r =
     let first : o₁ ≡ head ++ drop 8 mem = p ∙ ap (λ n. head ++ drop n mem) z in
     let lr = length_joined (encode_record t) 24 (length_record t) ops in
     let a = grow head mem o₁ o₂ (flat_map (encode_record t) ops) 8 (24 * length ops) (8 + 24 * length ops) lh first q refl in
-    grow (head ++ flat_map (encode_record t) ops) mem o₂ o₃ (flat_map (big 2) order) (8 + 24 * length ops) (2 * length order) (8 + 26 * length ops)
+    grow (head ++ flat_map (encode_record t) ops) mem o₂ o₃ (flat_map (bytes_of_number 2) order) (8 + 24 * length ops) (2 * length order) (8 + 26 * length ops)
     (rw length-append (omega arith)) a r (omega arith)
-    ∙ ap (λ x. x ++ flat_map (encode_record t) ops ++ flat_map (big 2) order ++ drop (8 + 26 * length ops) mem) hd
+    ∙ ap (λ x. x ++ flat_map (encode_record t) ops ++ flat_map (bytes_of_number 2) order ++ drop (8 + 26 * length ops) mem) hd
 
 -- a written trace reads as what went in
 pub reads_back : {I : Type 0} (t : Ghosts I) → Lawful t → (kind k : ℕ) (ops : List (Operation I)) (order out rest : List ℕ) → kind ≤ 2 → k < 2 ^ 16 →

@@ -4,7 +4,7 @@ use Rattle.std.specs.List.{AllByRecursion, flat_map}
 use Rattle.item.specs.declared.item.Item.{Ghosts}
 use Rattle.sheet.specs.declared.operation.Operation.{Operation}
 use Rattle.sheet.specs.Consistency.{Consistent}
-use Rattle.record.specs.Bytes.{big}
+use Rattle.record.specs.Bytes.{bytes_of_number}
 use Rattle.record.specs.Records.{encode_record, Fit}
 use Rattle.frame.specs.Headers.{bytes_of_header}
 use Rattle.frame.specs.Orders.{Small}
@@ -21,7 +21,7 @@ contents kind k ops order = record { kind = kind; k = k; ops = ops; order = orde
 module _ {I : Type 0} (t : Ghosts I) where
   -- the bytes of a trace with these contents
   abbrev pub encode : Contents I → List ℕ
-  encode c = bytes_of_header t.TYPE c.kind (length c.ops) c.k ++ flat_map (encode_record t) c.ops ++ flat_map (big 2) c.order
+  encode c = bytes_of_header t.TYPE c.kind (length c.ops) c.k ++ flat_map (encode_record t) c.ops ++ flat_map (bytes_of_number 2) c.order
 
   abbrev pub AllFit : List (Operation I) → Type 0
   AllFit = AllByRecursion (Fit t)

@@ -1,5 +1,5 @@
 ghost use Rattle.std.specs.Prelude.{◌≡◌, ℕ, ◌^◌, ◌<◌, List};
-ghost use Rattle.record.specs.Bytes.{big};
+ghost use Rattle.record.specs.Bytes.{bytes_of_number};
 ghost use Rattle.record.specs.Records.{encode_record, Fit};
 
 use item::item::Item;
@@ -33,7 +33,7 @@ impl<I: Item> Row<RECORD_LEN> for Operation<I> {
 }
 
 impl Row<2> for u16 {
-    ghost bytes = { big 2 };
+    ghost bytes = { bytes_of_number 2 };
 
     ghost fit = { λ n. n < 2 ^ 16 };
 

@@ -1,7 +1,8 @@
 use Rattle.std.proofs.Common.{◌≡◌, ◌+◌, ◌≤◌, ◌∙◌, ap, arith, drop, length, lit≤, refl, slice_index, Some, take}
+use Rattle.record.specs.Bytes.{number_in}
 use Rattle.frame.specs.Kinds.{kind_number}
 use Rattle.examination.specs.Kinds.{seat_of}
-use Rattle.comparison.specs.Cases.{number_in, words_of_docket}
+use Rattle.comparison.specs.Cases.{words_of_docket}
 use Rattle.comparison.proofs.Parts.{any_seat, parts_there, parts_answered}
 use Rattle.comparison.proofs.dockets.docket_answer.Goals as goal
 

@@ -1,7 +1,8 @@
 use Rattle.std.proofs.Common.{◌≡◌, ◌∙◌, ap, sym, lit≤, Some, slice_index}
 use Rattle.item.specs.Tickets.{ticket_items}
 use Rattle.item.specs.Stamps.{stamp_items}
-use Rattle.comparison.specs.Cases.{number_again, number_in, item_told}
+use Rattle.record.specs.Bytes.{number_in}
+use Rattle.comparison.specs.Cases.{number_again, item_told}
 use Rattle.comparison.proofs.Parts.{told_ticket, told_stamp, told_lane, told_whole}
 use Rattle.comparison.proofs.items.item_answer.Goals as goal
 use Rattle.comparison.proofs.items.item_answer.Goals.{in-0, in-1, in-2}

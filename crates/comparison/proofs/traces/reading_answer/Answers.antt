@@ -1,5 +1,6 @@
 use Rattle.std.proofs.Common.{◌≡◌, ◌+◌, ◌≤◌, ◌∙◌, ap, arith, drop, length, lit≤, min, refl, Some, take}
-use Rattle.comparison.specs.Cases.{number_in, words_of_two_readings}
+use Rattle.record.specs.Bytes.{number_in}
+use Rattle.comparison.specs.Cases.{words_of_two_readings}
 use Rattle.comparison.proofs.Parts.{parts_there, parts_answered}
 use Rattle.comparison.proofs.traces.reading_answer.Goals as goal
 

@@ -1,6 +1,7 @@
 use Rattle.std.proofs.Common.{◌≡◌, ◌+◌, ◌*◌, ◌/◌, ◌≤◌, ◌∙◌, ap, arith, drop, length, lit≤, refl, Some, slice_index, take}
+use Rattle.record.specs.Bytes.{number_in}
 use Rattle.frame.specs.Orders.{numbers_of}
-use Rattle.comparison.specs.Cases.{number_in, words_of_trace_written}
+use Rattle.comparison.specs.Cases.{words_of_trace_written}
 use Rattle.comparison.proofs.Parts.{parts_there, parts_answered}
 use Rattle.comparison.proofs.traces.writing_answer.Goals as goal
 

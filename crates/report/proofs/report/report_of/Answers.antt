@@ -1,9 +1,9 @@
-use Rattle.std.proofs.Common.{◌≡◌, ◌++◌, length, take, drop, sym, refl, ap, ◌∙◌, arith, rules}
+use Rattle.std.proofs.Common.{◌≡◌, ◌++◌, length, take, drop, sym, refl, ap, ◌∙◌, rules}
 use Rattle.std.proofs.lemmas.Result.{MatchResult-weaker}
 use Rattle.std.proofs.Math.Seq.{take-append_seam}
 use Rattle.item.proofs.Laws.{lawful}
 use Rattle.sheet.specs.Sheets.{entered, room}
-use Rattle.record.specs.Bytes.{Bytes}
+use Rattle.record.proofs.Digits.{bytes_of_type}
 use Rattle.trace.specs.Reading.{reading}
 use Rattle.trace.specs.Copying.{copying}
 use Rattle.trace.proofs.Copies.{always_written}
@@ -40,7 +40,7 @@ returns g c =
     let mem = c.as_mut_slice-2.result.now in
     let full : room c.new-sheet.result ≡ 1024 = search rules in
     let size : length c.as_mut_slice-2.result.now ≡ length c.args.bytes.now = search rules in
-    let bytes : Bytes c.args.bytes.now = λ i. omega (arith, c.type_inv.bytes i) in
+    let bytes = bytes_of_type c.args.bytes.now c.type_inv.bytes in
     let o = reading g.I.Item (room c.new-sheet.result) c.args.bytes.now in
     let said =
     fault_said t o (length mem) c.in-Err.fault c.faulted.result c.in-Err.ensures.answer

@@ -1,13 +1,12 @@
-use Rattle.std.proofs.Common.{◌≡◌, Ok, Result, arith, rules}
+use Rattle.std.proofs.Common.{◌≡◌, Ok, arith, rules}
 use Rattle.std.proofs.lemmas.Grind.{common_steps}
 use Rattle.item.proofs.Laws.{lawful}
 use Rattle.record.proofs.Digits.{bytes_of_type}
 use Rattle.sheet.specs.Sheets.{entered, room}
 use Rattle.trace.specs.Answers.{shown, read_answer, sheet_after}
-use Rattle.trace.specs.declared.fault.ReadFault.{ReadFault}
 use Rattle.trace.specs.declared.read.Accepted.{Accepted}
 use Rattle.trace.specs.Reading.{reading}
-use Rattle.trace.proofs.Readings.{sound_answer, encoded_answer, exact_answer}
+use Rattle.trace.proofs.Readings.{right_answer, exact_answer}
 use Rattle.trace.proofs.read.read.Goals as goal
 
 pub returns-in_err-header-clause-encoded_sound_is_accepted : goal.returns-in_err-header-clause-encoded_sound_is_accepted
@@ -34,15 +33,16 @@ returns g c =
     let h = c.in_ok-header.header in
     let old = entered c.args.sheet.now in
     let os = entered c.take_all.new.sheet in
-    let r : Result Accepted ReadFault = Ok (record { kind = h.kind; k = h.k; order = c.new-2.result }) in
+    let a : Accepted = record { kind = h.kind; k = h.k; order = c.new-2.result } in
     let answer : shown (Ok (record { kind = c.in_ok-header.header.kind; k = c.in_ok-header.header.k; order = c.new-2.result })) ≡ read_answer (reading g.I.Item (room c.args.sheet.now) c.args.bytes.now) =
     grind (arith, common_steps) in
     let same : entered c.take_all.new.sheet ≡ sheet_after (entered c.args.sheet.now) (reading g.I.Item (room c.args.sheet.now) c.args.bytes.now) = search rules in
+    let right = right_answer g.I.Item law n bs bytes a old os answer same in
     record {
       answer = answer;
       entered = same;
       loan = grind (arith, common_steps);
-      accepted_is_sound = sound_answer g.I.Item law n bs bytes r old os answer same;
-      accepted_is_encoded = encoded_answer g.I.Item law n bs bytes r old os answer same;
-      encoded_sound_is_accepted = exact_answer g.I.Item law n bs r old os answer same;
+      accepted_is_sound = right.sound;
+      accepted_is_encoded = right.bytes;
+      encoded_sound_is_accepted = exact_answer g.I.Item law n bs (Ok a) old os answer same;
     }
