@@ -12,6 +12,7 @@ use Rattle.trace.specs.Reading.{Outcome, reading}
 use Rattle.trace.specs.Reading.Outcome.{unread, refused, accepted}
 use Rattle.order.specs.Orders.{TrueOrder}
 use Rattle.calls.specs.declared.certificate.Certificate.{Certificate}
+use Rattle.calls.specs.Meanings.{Granted}
 use Rattle.calls.specs.Rules.{Buffers}
 use Rattle.docket.specs.Pairs.{paired_all}
 use Rattle.examination.specs.Kinds.{seat_of}
@@ -59,3 +60,12 @@ TrueTraceOfEither bs = TrueTrace ticket_items bs ⊎ TrueTrace stamp_items bs
 abbrev pub count_of : {bs : List ℕ} → TrueTraceOfEither bs → ℕ
 count_of (inl h) = length h.contents.ops
 count_of (inr h) = length h.contents.ops
+
+-- a true trace, with the certificate c of its order, and the buffers b before it and w after it
+pub record Certified {I : Type 0} (t : Ghosts I) (bs : List ℕ) (b : Buffers) (c : Certificate) (w : Buffers) : Type 0 where
+  pub trace : TrueTrace t bs
+  pub granted : Granted (seat_of trace.contents.kind) (paired_all t.number trace.contents.ops) trace.contents.k trace.contents.order b c w
+
+-- of tickets or of stamps
+abbrev pub CertifiedOfEither : List ℕ → Buffers → Certificate → Buffers → Type 0
+CertifiedOfEither bs b c w = Certified ticket_items bs b c w ⊎ Certified stamp_items bs b c w

@@ -1,5 +1,5 @@
 // From the bytes of a trace to the certificate of its order.
-ghost use Rattle.std.specs.Prelude.{◌≡◌, ◌≤◌, min, true, false, length, is_ok, ◌==◌};
+ghost use Rattle.std.specs.Prelude.{◌≡◌, ◌≤◌, min, true, false, length, is_ok, IfOk, ◌==◌};
 ghost use Rattle.sheet.specs.declared.operation.Method.TheVariants.{FoundEmpty};
 ghost use Rattle.frame.specs.Kinds.{kind_number};
 ghost use Rattle.frame.specs.Orders.{order_of};
@@ -9,7 +9,7 @@ ghost use Rattle.docket.specs.Pairs.{sheet_ops};
 ghost use Rattle.docket.specs.Lent.{held, SameSlices};
 ghost use Rattle.examination.specs.Kinds.{seat_of};
 ghost use Rattle.examination.specs.Orders.{order_answer, order_written};
-ghost use Rattle.examination.specs.Traces.{examining, type_of, examination_of, TrueTraceOfEither, count_of};
+ghost use Rattle.examination.specs.Traces.{examining, type_of, examination_of, TrueTraceOfEither, count_of, CertifiedOfEither};
 
 use crate::kind::certify_of_kind;
 use crate::proposal::Proposal;
@@ -84,6 +84,7 @@ pub fn certify_trace(bytes: &[u8], buffers: &mut Buffers) -> Result<Certificate,
     ensures written { held buffers.new ≡ (examination_of bytes.now (held buffers.old)).buffers }
     ensures lenders { SameSlices buffers.old buffers.new }
     ensures granted_exactly_when_true_order { (is_ok result ≡ true → TrueTraceOfEither bytes.now) × ((h : TrueTraceOfEither bytes.now) → is_too_short (count_of h) (held buffers.old) ≡ false → is_ok result ≡ true) }
+    ensures granted_certificates_are_true { IfOk result (λ c. CertifiedOfEither bytes.now (held buffers.old) c (held buffers.new)) }
 {
     // Kept (no plainer): an item type is chosen by a type argument, and a trait of all that is done by item type says no less.
     if has_stamps(bytes) {

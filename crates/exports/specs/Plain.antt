@@ -30,6 +30,10 @@ plain (Err f) = record {
   first = 0;
 }
 
+-- the certificate that an outcome says
+abbrev pub certificate_in : PlainOutcome → Certificate
+certificate_in o = record { total = o.total; largest = o.largest; first = o.first }
+
 -- memory with a text over its front, or as it was where the text does not fit
 abbrev pub with_text : List ℕ → List ℕ → List ℕ
 with_text text memory = cond (nat_le (length text) (length memory)) (over text memory) memory

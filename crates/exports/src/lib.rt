@@ -4,10 +4,10 @@
 ghost use Rattle.std.specs.Prelude.{◌≡◌, false, length};
 ghost use Rattle.calls.specs.Rules.{is_too_short};
 ghost use Rattle.docket.specs.InAgreement.{three};
-ghost use Rattle.examination.specs.Traces.{examination_of, TrueTraceOfEither, count_of};
+ghost use Rattle.examination.specs.Traces.{examination_of, TrueTraceOfEither, count_of, CertifiedOfEither};
 ghost use Rattle.report.specs.Reports.{report_on};
 ghost use Rattle.comparison.specs.Cases.{case_answer};
-ghost use Rattle.exports.specs.Plain.{number_of_layer, plain, with_text, WrittenOrNone};
+ghost use Rattle.exports.specs.Plain.{number_of_layer, plain, certificate_in, with_text, WrittenOrNone};
 
 use calls::certificate::Certificate;
 use comparison::case::answer_case;
@@ -99,6 +99,7 @@ pub extern "C" fn examiner_certify(
     ensures outcome { outcome.new ≡ plain (examination_of bytes.now (three ranks.old instants.old latenesses.old)).answer }
     ensures written { three ranks.new instants.new latenesses.new ≡ (examination_of bytes.now (three ranks.old instants.old latenesses.old)).buffers }
     ensures granted_exactly_when_true_order { (outcome.new.status ≡ 0 → TrueTraceOfEither bytes.now) × ((h : TrueTraceOfEither bytes.now) → is_too_short (count_of h) (three ranks.old instants.old latenesses.old) ≡ false → outcome.new.status ≡ 0) }
+    ensures granted_certificates_are_true { outcome.new.status ≡ 0 → CertifiedOfEither bytes.now (three ranks.old instants.old latenesses.old) (certificate_in outcome.new) (three ranks.new instants.new latenesses.new) }
 {
     let mut buffers = Buffers {
         ranks,

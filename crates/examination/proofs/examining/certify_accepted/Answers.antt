@@ -1,4 +1,4 @@
-use Rattle.std.proofs.Common.{rules, take, ap, ◌∙◌}
+use Rattle.std.proofs.Common.{rules, ap, ◌∙◌}
 use Rattle.frame.specs.Kinds.{kind_number}
 use Rattle.frame.specs.Orders.{order_of}
 use Rattle.docket.specs.Lent.{held}
@@ -14,6 +14,6 @@ returns g c =
     let seat = seat_of (kind_number a.kind) in
     let ops = sheet_ops g.I.Item.number c.args.sheet.now in
     let b = held c.args.buffers.now in
-    let front = ap (λ n. take n c.from_fn-numbers.result) c.len.ensures ∙ front_made c.from_fn-numbers.ensures.items (order_of a.order) (λ x y q e. search rules) c.requires.few in
+    let front = front_made c.from_fn-numbers.ensures.items (order_of a.order) c.len.result (λ x y q e. search rules) c.len.ensures c.requires.few in
     let e = c.certify_of_kind.ensures in
     record { answer = e.answer ∙ ap (λ p. order_answer seat ops a.k p b) front; written = e.written ∙ ap (λ p. order_written seat ops a.k p b) front; lenders = e.lenders }
