@@ -1,3 +1,4 @@
+// From the bytes of a trace to the text that is printed of it.
 ghost use Rattle.std.specs.Prelude.{◌≡◌, ℕ, true, IfOk, Some, MatchResult};
 ghost use Rattle.sheet.specs.Sheets.{entered};
 ghost use Rattle.std.specs.Option.{option_map};
