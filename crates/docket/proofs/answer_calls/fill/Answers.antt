@@ -1,4 +1,4 @@
-use Rattle.docket.proofs.Slotted.{keeps_certify}
+use Rattle.docket.proofs.AnsweredSlots.{keeps_certify}
 use Rattle.docket.proofs.answer_calls.fill.Goals as goal
 
 pub returns-in-Certify-clause-kept : goal.returns-in-Certify-clause-kept

@@ -4,7 +4,7 @@ use Rattle.docket.specs.declared.entry.Entry.{Entry}
 use Rattle.docket.specs.Moves.{with_late, one_more, with_flag, changed_at, changed_all}
 use Rattle.docket.proofs.Table.{flag_kept, flags_kept}
 use Rattle.docket.proofs.Awaiting.{awaits_late}
-use Rattle.docket.proofs.Turns.{judged_ok}
+use Rattle.docket.proofs.Judged.{judged_ok}
 use Rattle.docket.proofs.Placing.{judged_is, judged_rank_is, placed_ops, placed_agrees}
 use Rattle.docket.proofs.docket.Docket.place.Goals as goal
 
