@@ -81,6 +81,7 @@ pub record Buffers : Type 0 where
 abbrev pub over_each : Buffers → Buffers → Buffers
 over_each xs b = record { ranks = over xs.ranks b.ranks; instants = over xs.instants b.instants; latenesses = over xs.latenesses b.latenesses }
 
+-- the largest of a list, and 0 of none
 abbrev pub largest_of : List ℕ → ℕ
 largest_of [] = 0
 largest_of (x ∷ xs) = max x (largest_of xs)
@@ -111,6 +112,7 @@ module _ (seat : SeatRule) (ops : List Paired) where
   abbrev pub figures_of : List ℕ → Buffers
   figures_of p = record { ranks = rank_errors seat ops p; instants = earliest ops p; latenesses = latenesses_of p }
 
+  -- what the certificate of the steps sums up
   abbrev pub certificate_of : List ℕ → Certificate
   certificate_of p = summed_up (rank_errors seat ops p)
 
