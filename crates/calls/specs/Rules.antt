@@ -53,11 +53,15 @@ pub record Run : Type 0 where
   pub new : ℕ
   pub stopped : Option DocketFault
 
+-- the run stopped by the answer to a step after the steps p, of which m are new, where it is a refusal, else the run R
+abbrev pub unless_refused : List ℕ → ℕ → Result ℕ DocketFault → Run → Run
+unless_refused p m (Ok r) R = R
+unless_refused p m (Err e) R = record { steps = p; new = m; stopped = Some e }
+
 -- the numbers of a list placed one after another until the first refusal; m are new before
 abbrev pub run_of : SeatRule → List Paired → ℕ → List ℕ → ℕ → List ℕ → Run
 run_of seat ops k p m [] = record { steps = p; new = m; stopped = None }
-run_of seat ops k p m (x ∷ xs) =
-    elim (place_answer seat ops k p x) [ Ok r ↦ run_of seat ops k (p ++ (x ∷ [])) (suc m) xs | Err e ↦ record { steps = p; new = m; stopped = Some e } ]
+run_of seat ops k p m (x ∷ xs) = unless_refused p m (place_answer seat ops k p x) (run_of seat ops k (p ++ (x ∷ [])) (suc m) xs)
 
 -- ---- lift
 
