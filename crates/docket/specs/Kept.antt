@@ -25,6 +25,7 @@ numbers_in ss = map (λ s. s.operation) ss
 abbrev pub ranks_in : List Step → List ℕ
 ranks_in ss = map (λ s. s.rank) ss
 
+-- table and steps have 1,024 entries each
 abbrev pub Full : List Entry → List Step → Type 0
 Full es ss = (length es ≡ 1024) × (length ss ≡ 1024)
 
