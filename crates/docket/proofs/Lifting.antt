@@ -18,7 +18,7 @@ use Rattle.order.proofs.Sizes.{held_times}
 use Rattle.order.proofs.Growing.{one_more_step}
 use Rattle.docket.proofs.Table.{keeps_one, map_keeps_one, map_keeps_all, late_down}
 use Rattle.docket.proofs.Holds.{replayed_held}
-use Rattle.docket.proofs.Placing.{long_steps, long_numbers, long_ranks, sane}
+use Rattle.docket.proofs.Placing.{long_steps, long_numbers, long_ranks, same_deeds}
 
 -- the last step taken out
 module _ (seat : SeatRule) (l u : Ledger) (x : ℕ)
@@ -60,7 +60,7 @@ module _ (seat : SeatRule) (l u : Ledger) (x : ℕ)
     m_steps = ap (λ (v : ℕ). take v (numbers_in m.steps)) m-placed ∙ ap (λ (v : List Step). take u.placed (numbers_in v)) m-ss
 
     stand_is : ◌≡◌ {A = Meaning} (record { list = L; count = n }) (record { list = giving_after seat (ops_of u) (steps_of u); count = 0 + adds_in (ops_of u) (steps_of u) })
-    stand_is = stand ∙ replayed_held seat u.entries (ops_of u) (steps_of u) [] 0 (sane u) (λ y. omega (arith, u.once y)) (omega (arith, long_steps u))
+    stand_is = stand ∙ replayed_held seat u.entries (ops_of u) (steps_of u) [] 0 (same_deeds u) (λ y. omega (arith, u.once y)) (omega (arith, long_steps u))
 
     l_is : L ≡ giving_after seat (ops_of u) (steps_of u)
     l_is = ap (λ (s : Meaning). s.list) stand_is
@@ -82,8 +82,8 @@ module _ (seat : SeatRule) (l u : Ledger) (x : ℕ)
           (sym (last_step (ranks_in l.steps) l.placed r pos (omega (arith, long_ranks l)) r_is) ∙ i.errors ∙ ap (rank_errors seat (ops_of l)) l_steps
           ∙ ap (λ (o : List Paired). rank_errors seat o (steps_of u ++ x ∷ [])) (sym u_ops) ∙ (one_more_step seat (ops_of u) (steps_of u) x).errors_by_step)
 
-      late_is : (y : ℕ) → y < l.count → (entry_of m.entries y).late ≡ lateness seat (ops_of u) y (steps_of u)
-      late_is y yn =
+      lifted_late : (y : ℕ) → y < l.count → (entry_of m.entries y).late ≡ lateness seat (ops_of u) y (steps_of u)
+      lifted_late y yn =
           let H : List ℕ = giving_after seat (ops_of u) (steps_of u) in
           let before : (entry_of l.entries y).late ≡ lateness seat (ops_of u) y (steps_of u) + passes_over y (rank_error (operation (ops_of u) x).deed H) H =
           i.lates y yn ∙ ap (lateness seat (ops_of l) y) l_steps ∙ ap (λ (o : List Paired). lateness seat o y (steps_of u ++ x ∷ [])) (sym u_ops) ∙ (one_more_step seat (ops_of u) (steps_of u) x).latenesses y in
@@ -101,7 +101,7 @@ module _ (seat : SeatRule) (l u : Ledger) (x : ℕ)
       lifted_agrees = record {
         gives = lifted_gives;
         added = lifted_adds;
-        lates = λ y yn. late_is y (omega (arith, m-count, u-count, yn)) ∙ ap (lateness seat (ops_of u) y) (sym m_steps) ∙ ap (λ (o : List Paired). lateness seat o y (steps_of m)) (sym m_to_u);
+        lates = λ y yn. lifted_late y (omega (arith, m-count, u-count, yn)) ∙ ap (lateness seat (ops_of u) y) (sym m_steps) ∙ ap (λ (o : List Paired). lateness seat o y (steps_of m)) (sym m_to_u);
         errors =
             ap (λ (v : ℕ). take v (ranks_in m.steps)) (m-placed ∙ u-placed) ∙ ap (λ (v : List Step). take (l.placed - 1) (ranks_in v)) (m-ss ∙ u-ss) ∙ ranks_are.0
             ∙ ap (rank_errors seat (ops_of u)) (sym m_steps) ∙ ap (λ (o : List Paired). rank_errors seat o (steps_of m)) (sym m_to_u);

@@ -25,7 +25,7 @@ use Rattle.docket.proofs.Turns.{judged_in}
 use Rattle.order.proofs.Sizes.{held_times, adds_le, late_le}
 use Rattle.order.proofs.Growing.{one_more_step}
 use Rattle.docket.proofs.Table.{op_at, length_ops, keeps_one, map_keeps_one, map_keeps_all, late_up}
-use Rattle.docket.proofs.Holds.{Sane, stepped_after}
+use Rattle.docket.proofs.Holds.{SameDeed, stepped_after}
 
 -- ---- dockets
 -- ---- what holds of every ledger
@@ -35,10 +35,10 @@ no_step = record { operation = 0; rank = 0 }
 
 module _ (l : Ledger) where
   pub long_numbers : length (numbers_in l.steps) ≡ 1024
-  long_numbers = length-map l.steps (λ s. s.operation) ∙ l.full.1
+  long_numbers = length-map l.steps (λ s. s.operation) ∙ l.lengths.1
 
   pub long_ranks : length (ranks_in l.steps) ≡ 1024
-  long_ranks = length-map l.steps (λ s. s.rank) ∙ l.full.1
+  long_ranks = length-map l.steps (λ s. s.rank) ∙ l.lengths.1
 
   pub long_steps : length (steps_of l) ≡ l.placed
   long_steps = length-take-le l.placed (numbers_in l.steps) (omega (arith, long_numbers))
@@ -83,9 +83,9 @@ module _ (l : Ledger) where
   pub long_ops : length (ops_of l) ≡ l.count
   long_ops = length_ops l.entries l.count (omega arith)
 
-  pub sane : AllByRecursion (Sane (λ L c. 0) l.entries (ops_of l)) (steps_of l)
-  sane =
-      All-from_get_or (Sane (λ L c. 0) l.entries (ops_of l)) (steps_of l) 0
+  pub same_deeds : AllByRecursion (SameDeed (λ L c. 0) l.entries (ops_of l)) (steps_of l)
+  same_deeds =
+      All-from_get_or (SameDeed (λ L c. 0) l.entries (ops_of l)) (steps_of l) 0
       (λ i h.
       let im : i < l.placed = omega (arith, long_steps) in
       let e = get_or-take l.placed (numbers_in l.steps) i 0 im in
@@ -234,9 +234,9 @@ module _ (seat : SeatRule) (l m : Ledger) (L : List ℕ) (x r : ℕ)
     r_is : r ≡ rank_error d (giving_after seat (ops_of l) (steps_of l))
     r_is = rank_is ∙ ap (λ (e : Deed). rank_error e L) d_is ∙ ap (rank_error d) i.gives
 
-    late_is : (y : ℕ) → y < l.count → (entry_of m.entries y).late ≡ lateness seat (ops_of l) y (steps_of l ++ x ∷ [])
+    placed_late : (y : ℕ) → y < l.count → (entry_of m.entries y).late ≡ lateness seat (ops_of l) y (steps_of l ++ x ∷ [])
     unfolding d
-    late_is y yn =
+    placed_late y yn =
         let a = i.lates y yn in
         let t : times y (take r L) ≤ 1 = omega (arith, times_take y r L, once_held y, l.once y) in
         let b : passes_over y r L ≡ times y (take r L) = passes_times y r L t in
@@ -258,7 +258,7 @@ module _ (seat : SeatRule) (l m : Ledger) (L : List ℕ) (x r : ℕ)
           ap (λ (s : Meaning). s.count) after_is ∙ ap (λ (v : ℕ). v + items_added d) i.added ∙ sym (one_more_step seat (ops_of l) (steps_of l) x).adds
           ∙ ap (adds_in (ops_of l)) (sym placed_steps) ∙ ap (λ (o : List Paired). adds_in o (steps_of m)) (sym placed_ops);
       lates = λ y yn.
-          late_is y (omega (arith, count_is, yn))
+          placed_late y (omega (arith, count_is, yn))
           ∙ ap (lateness seat (ops_of l) y) (sym placed_steps) ∙ ap (λ (o : List Paired). lateness seat o y (steps_of m)) (sym placed_ops);
       errors =
           ap (λ (v : ℕ). take v (ranks_in m.steps)) placed-is ∙ ap (take (l.placed + 1)) rs-is ∙ take_more_set (ranks_in l.steps) l.placed r (omega (arith, fits, long_ranks l))

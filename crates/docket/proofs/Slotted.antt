@@ -11,7 +11,7 @@ use Rattle.order.specs.declared.operation.Paired.{Paired}
 use Rattle.calls.specs.declared.fault.DocketFault.{DocketFault}
 use Rattle.docket.specs.declared.ledger.Ledger.{Ledger}
 use Rattle.docket.specs.InAgreement.{ops_of, steps_of}
-use Rattle.docket.specs.Lent.{owned}
+use Rattle.docket.specs.Buffers.{owned}
 use Rattle.docket.specs.declared.buffers.OwnBuffers.{OwnBuffers}
 use Rattle.calls.proofs.Sessions.{session}
 use Rattle.docket.specs.declared.slot.Slot.TheVariants.{Certify}

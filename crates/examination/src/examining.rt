@@ -6,7 +6,7 @@ ghost use Rattle.trace.specs.Faults.{read_refusal};
 ghost use Rattle.trace.specs.Reading.{reading};
 ghost use Rattle.calls.specs.Rules.{is_too_short};
 ghost use Rattle.docket.specs.Pairs.{sheet_ops};
-ghost use Rattle.docket.specs.Lent.{held, SameSlices};
+ghost use Rattle.docket.specs.Buffers.{held, SameSlices};
 ghost use Rattle.examination.specs.declared.examining.ExamineFault.TheVariants.{Refused, NoMemory};
 ghost use Rattle.examination.specs.Kinds.{seat_of};
 ghost use Rattle.examination.specs.Orders.{order_answer, order_written};

@@ -4,7 +4,7 @@
 ghost use Rattle.std.specs.Prelude.{◌≡◌, false, ◌⊎◌, length, Result};
 ghost use Rattle.calls.specs.declared.certificate.Certificate.{Certificate};
 ghost use Rattle.calls.specs.Rules.{is_too_short};
-ghost use Rattle.docket.specs.InAgreement.{three};
+ghost use Rattle.docket.specs.Buffers.{buffers_of};
 ghost use Rattle.examination.specs.declared.examining.ExamineFault.{ExamineFault};
 ghost use Rattle.examination.specs.Traces.{examination_of, Comes, TrueTraceOfEither, count_of};
 ghost use Rattle.report.specs.Reports.{report_on};
@@ -103,8 +103,8 @@ pub extern "C" fn examiner_certify(
     latenesses: &mut [u16],
     outcome: &mut PlainOutcome,
 )
-    ensures comes { (r : Result Certificate ExamineFault) × Comes (examination_of bytes.now (three ranks.old instants.old latenesses.old)) (three ranks.old instants.old latenesses.old) r (three ranks.new instants.new latenesses.new) × (outcome.new ≡ plain r) }
-    ensures granted_exactly_when_true_order { (outcome.new.status ≡ 0 → TrueTraceOfEither bytes.now) × ((h : TrueTraceOfEither bytes.now) → is_too_short (count_of h) (three ranks.old instants.old latenesses.old) ≡ false → (outcome.new.status ≡ 0) ⊎ (outcome.new.status ≡ 2)) }
+    ensures comes { (r : Result Certificate ExamineFault) × Comes (examination_of bytes.now (buffers_of ranks.old instants.old latenesses.old)) (buffers_of ranks.old instants.old latenesses.old) r (buffers_of ranks.new instants.new latenesses.new) × (outcome.new ≡ plain r) }
+    ensures granted_exactly_when_true_order { (outcome.new.status ≡ 0 → TrueTraceOfEither bytes.now) × ((h : TrueTraceOfEither bytes.now) → is_too_short (count_of h) (buffers_of ranks.old instants.old latenesses.old) ≡ false → (outcome.new.status ≡ 0) ⊎ (outcome.new.status ≡ 2)) }
 {
     let mut buffers = Buffers {
         ranks,

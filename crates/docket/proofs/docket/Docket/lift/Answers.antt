@@ -9,7 +9,7 @@ pub invariant_of-self : goal.invariant_of-self
 invariant_of-self g c =
     let u = c.remove_last_step-last.new.self in
     let lowered = c.change_latenesses.ensures one_less (λ n r h. search rules) in
-    ((c.change_latenesses.auto.entries ∙ u.full.0, u.full.1), (u.few, (u.known, (u.once, (flags_kept one_less u _ _ lowered, (awaits_late one_less u _ _ lowered, tt))))))
+    ((c.change_latenesses.auto.entries ∙ u.lengths.0, u.lengths.1), (u.counts_fit, (u.known, (u.once, (flags_kept one_less u _ _ lowered, (awaits_late one_less u _ _ lowered, tt))))))
 
 pub invariant_of-self-2 : goal.invariant_of-self-2
 invariant_of-self-2 g c =

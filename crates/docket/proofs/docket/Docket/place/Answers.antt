@@ -20,7 +20,7 @@ pub invariant_of-self : goal.invariant_of-self
 invariant_of-self g c =
     let l = c.args.self.now.ledger in
     let raised = c.change_latenesses.ensures one_more (λ n r h. search rules) in
-    ((c.change_latenesses.auto.entries ∙ l.full.0, l.full.1), (l.few, (l.known, (l.once, (flags_kept one_more l _ _ raised, (awaits_late one_more l _ _ raised, tt))))))
+    ((c.change_latenesses.auto.entries ∙ l.lengths.0, l.lengths.1), (l.counts_fit, (l.known, (l.once, (flags_kept one_more l _ _ raised, (awaits_late one_more l _ _ raised, tt))))))
 
 pub add_step-requires : goal.add_step-requires
 add_step-requires g c =
