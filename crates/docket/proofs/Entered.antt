@@ -1,16 +1,26 @@
 -- A table that was filled entry by entry, before any step. Assumes nothing.
-use Rattle.std.proofs.Common.{◌≡◌, ℕ, ◌<◌, ◌≤◌, false, List, map, length, get_or, take, refl, ap, ◌∙◌, ⊎_elim, arith}
-use Rattle.std.proofs.lemmas.List.{get_or_past, ext_get_or}
+use Rattle.std.proofs.Common.{◌≡◌, ℕ, ◌<◌, ◌≤◌, false, List, map, length, get_or, take, sym, refl, ap, ◌∙◌, ⊎_elim, arith}
+use Rattle.std.proofs.lemmas.List.{get_or_past, get_or-map, length-map, ext_get_or}
 use Rattle.std.proofs.lemmas.Bool.{cases_lt}
 use Rattle.std.specs.Fn.{Mut, Called}
 use Rattle.std.specs.Array.{IsFromFnResult}
+use Rattle.sheet.specs.declared.operation.Operation.{Operation}
 use Rattle.order.specs.declared.operation.Paired.{Paired}
 use Rattle.docket.specs.declared.entry.Entry.{Entry}
 use Rattle.order.specs.Steps.{nothing}
 use Rattle.docket.specs.Kept.{fresh, blank, entry_of}
+use Rattle.docket.specs.Pairs.{paired_of, paired_all}
 use Rattle.docket.specs.InAgreement.{paired_in}
 use Rattle.docket.proofs.Made.{made}
 use Rattle.docket.proofs.Table.{op_at, length_ops}
+
+-- the operation of number k as it is paired, and nothing past them all
+module _ {I : Type 0} (number : I → ℕ) (os : List (Operation I)) (k : ℕ) where
+  pub paired_at : (o : Operation I) → k < length os → o ≡ get_or os k o → get_or (paired_all number os) k nothing ≡ paired_of number os o
+  paired_at o h is = get_or-map (paired_of number os) os k o nothing h ∙ ap (paired_of number os) (sym is)
+
+  pub paired_past : length os ≤ k → get_or (paired_all number os) k nothing ≡ nothing
+  paired_past h = get_or_past (paired_all number os) k nothing (omega (arith, length-map os (paired_of number os)))
 
 -- the entry of number x, where ps are the operations
 abbrev pub entry_before : List Paired → ℕ → Entry
