@@ -92,6 +92,17 @@ module _ (l : Ledger) where
       let xn : get_or (steps_of l) i 0 < l.count = omega (arith, e, l.known i im) in
       (omega arith, sym (ap (λ (o : Paired). o.deed) (op_is (get_or (steps_of l) i 0) xn))))
 
+-- a ledger with no step is in agreement with a holder that was cleared
+pub opened_agrees : (seat : SeatRule) (l : Ledger) (L : List ℕ) (n : ℕ) → l.placed ≡ 0 → ((x : ℕ) → (entry_of l.entries x).late ≡ 0) → L ≡ [] → n ≡ 0 → InAgreement seat L n l
+opened_agrees seat l L n z late empty none =
+    let no : steps_of l ≡ [] = ap (λ (m : ℕ). take m (numbers_in l.steps)) z in
+    record {
+      gives = empty ∙ sym (ap (giving_after seat (ops_of l)) no);
+      added = none ∙ sym (ap (adds_in (ops_of l)) no);
+      lates = (λ x h. late x ∙ sym (ap (lateness seat (ops_of l) x) no));
+      errors = ap (λ (m : ℕ). take m (ranks_in l.steps)) z ∙ sym (ap (rank_errors seat (ops_of l)) no);
+    }
+
 -- ---- the rules
 answered : List ℕ → ℕ → ℕ → ℕ → Bool → Option ℕ → Deed → List ℕ → Result ℕ DocketFault
 answered p n x k b w d L =
