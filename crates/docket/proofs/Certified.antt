@@ -6,7 +6,7 @@ use Rattle.std.proofs.lemmas.Bool.{cond-true, cond-false}
 use Rattle.calls.specs.declared.certificate.Certificate.{Certificate}
 use Rattle.order.specs.Times.{earliest}
 use Rattle.giving.specs.Lists.{SeatRule, times}
-use Rattle.order.specs.Steps.{rank_errors, lateness}
+use Rattle.order.specs.Steps.{lateness}
 use Rattle.calls.specs.declared.fault.DocketFault.{DocketFault}
 use Rattle.calls.specs.declared.fault.DocketFault.TheVariants.{StepsMissing, BufferTooShort}
 use Rattle.giving.specs.Fronts.{over}
@@ -18,6 +18,7 @@ use Rattle.docket.specs.InAgreement.{ops_of, steps_of, InAgreement, lates_of, er
 use Rattle.docket.specs.Buffers.{buffers_of}
 use Rattle.docket.specs.Moves.{not_placed}
 use Rattle.docket.proofs.PlacedSteps.{lowest_ext}
+use Rattle.docket.proofs.Fronts.{same_buffers}
 use Rattle.docket.proofs.Placing.{long_steps, long_ops, not_not}
 
 module _ (seat : SeatRule) (l : Ledger) where
@@ -57,7 +58,4 @@ module _ (seat : SeatRule) (l : Ledger) where
 
   pub cert_written : (r i t r' i' t' : List ℕ) (c : Certificate) (L : List ℕ) (n : ℕ)
       → r' ≡ over (errors_of l) r → i' ≡ over (earliest (ops_of l) (steps_of l)) i → t' ≡ over (lates_of l) t → InAgreement seat L n l → buffers_of r' i' t' ≡ written seat (ops_of l) (steps_of l) (buffers_of r i t) (Ok c)
-  cert_written r i t r' i' t' c L n re ie te s =
-      ap (λ (v : List ℕ). buffers_of v i' t') (re ∙ ap (λ (v : List ℕ). over v r) s.errors)
-      ∙ ap (λ (v : List ℕ). buffers_of (over (rank_errors seat (ops_of l) (steps_of l)) r) v t') ie
-      ∙ ap (λ (v : List ℕ). buffers_of (over (rank_errors seat (ops_of l) (steps_of l)) r) (over (earliest (ops_of l) (steps_of l)) i) v) (te ∙ ap (λ (v : List ℕ). over v t) (lates_same L n s))
+  cert_written r i t r' i' t' c L n re ie te s = same_buffers (re ∙ ap (λ (v : List ℕ). over v r) s.errors) ie (te ∙ ap (λ (v : List ℕ). over v t) (lates_same L n s))

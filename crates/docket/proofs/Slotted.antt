@@ -14,6 +14,7 @@ use Rattle.docket.specs.declared.ledger.Ledger.{Ledger}
 use Rattle.docket.specs.InAgreement.{ops_of, steps_of}
 use Rattle.docket.specs.Buffers.{buffers_of, owned}
 use Rattle.docket.specs.declared.buffers.OwnBuffers.{OwnBuffers}
+use Rattle.docket.proofs.Fronts.{same_buffers}
 use Rattle.calls.proofs.Sessions.{session}
 use Rattle.docket.specs.declared.slot.Slot.TheVariants.{Certify}
 use Rattle.calls.specs.Sessions.{Session}
@@ -25,10 +26,7 @@ keeps_certify s b c a r is = subst (λ (t : Slot). Keeps t (Certify c r)) (sym i
 -- what buffers of one's own hold once lists as long are written over them
 pub owned_over : (o : OwnBuffers) (r i t : List ℕ) → length r ≡ o.ranks.len → length i ≡ o.instants.len → length t ≡ o.latenesses.len
     → owned (record { ranks = with_items o.ranks r; instants = with_items o.instants i; latenesses = with_items o.latenesses t }) ≡ buffers_of r i t
-owned_over o r i t rn inn tn =
-    ap (λ (v : List ℕ). buffers_of v (with_items o.instants i).items (with_items o.latenesses t).items) (with_items_is o.ranks r rn)
-    ∙ ap (λ (v : List ℕ). buffers_of r v (with_items o.latenesses t).items) (with_items_is o.instants i inn)
-    ∙ ap (buffers_of r i) (with_items_is o.latenesses t tn)
+owned_over o r i t rn inn tn = same_buffers (with_items_is o.ranks r rn) (with_items_is o.instants i inn) (with_items_is o.latenesses t tn)
 
 -- ---- the slots in turn
 module _ (seat : SeatRule) (l m : Ledger) (ys zs : List Slot) (i : ℕ) (y z d : Slot)

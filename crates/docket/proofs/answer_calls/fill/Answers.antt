@@ -1,4 +1,4 @@
-use Rattle.std.proofs.Common.{◌≡◌, ℕ, List, Result, sym, refl, ap, subst, ◌∙◌}
+use Rattle.std.proofs.Common.{◌≡◌, ℕ, Result, sym, refl, ap, subst, ◌∙◌}
 use Rattle.calls.specs.declared.certificate.Certificate.{Certificate}
 use Rattle.calls.specs.declared.fault.DocketFault.{DocketFault}
 use Rattle.calls.specs.Rules.{Buffers, joined}
@@ -8,6 +8,7 @@ use Rattle.docket.specs.declared.slot.Slot.TheVariants.{Place, Run, Lift}
 use Rattle.docket.specs.Buffers.{buffers_of, owned}
 use Rattle.docket.specs.Slots.{Keeps, call_of}
 use Rattle.docket.specs.Agreed.{steps_in, running, writing, replying, leaving}
+use Rattle.docket.proofs.Fronts.{same_buffers}
 use Rattle.docket.proofs.Slotted.{keeps_certify, owned_over}
 use Rattle.docket.proofs.answer_calls.fill.Goals as goal
 
@@ -62,9 +63,7 @@ returns-in-Certify g c =
     let o = c.in-Certify.buffers in
     let b : Buffers = buffers_of c.deref_mut.result.now c.deref_mut-in-Certify.result.now c.deref_mut-in-Certify-2.result.now in
     let lent : b ≡ owned o =
-    ap (λ (v : List ℕ). buffers_of v c.deref_mut-in-Certify.result.now c.deref_mut-in-Certify-2.result.now) c.deref_mut.ensures.value
-    ∙ ap (λ (v : List ℕ). buffers_of o.ranks.items v c.deref_mut-in-Certify-2.result.now) c.deref_mut-in-Certify.ensures.value
-    ∙ ap (buffers_of o.ranks.items o.instants.items) c.deref_mut-in-Certify-2.ensures.value in
+    same_buffers c.deref_mut.ensures.value c.deref_mut-in-Certify.ensures.value c.deref_mut-in-Certify-2.ensures.value in
     let new =
     owned_over o c.certify_into.new.ranks c.certify_into.new.instants c.certify_into.new.latenesses
     (c.certify_into.auto.ranks ∙ c.deref_mut.ensures.len) (c.certify_into.auto.instants ∙ c.deref_mut-in-Certify.ensures.len) (c.certify_into.auto.latenesses ∙ c.deref_mut-in-Certify-2.ensures.len) in
