@@ -13,9 +13,9 @@ use Rattle.giving.specs.Lists.{times, place, without, Once, Below}
 use Rattle.giving.proofs.Counts.{times_none, once_more}
 use Rattle.giving.proofs.Places.{place_only, removed_without}
 use Rattle.counting.specs.declared.slot.Slot.{Slot}
-use Rattle.counting.specs.Blocks.{used, worth, upto}
+use Rattle.counting.specs.Blocks.{used, worth, used_upto}
 use Rattle.counting.specs.Slots.{codes, slot_of, FreeFrom, HasPosition}
-use Rattle.counting.specs.Sums.{upto_le}
+use Rattle.counting.specs.Sums.{used_upto_le}
 
 pub codes_append : (xs ys : List (Option ℕ)) → codes (xs ++ ys) ≡ codes xs ++ codes ys
 unfolding codes
@@ -40,11 +40,11 @@ length_used [] = refl
 length_used (None ∷ xs) = length_used xs
 length_used (Some c ∷ xs) = ap suc (length_used xs) ∙ sym (sum_by-cons worth (Some c) xs ∙ one-add (count_by used xs))
 
-pub length_codes : (s : List (Option ℕ)) (n : ℕ) → length (codes (take n s)) ≡ upto s n
-unfolding upto
+pub length_codes : (s : List (Option ℕ)) (n : ℕ) → length (codes (take n s)) ≡ used_upto s n
+unfolding used_upto
 length_codes s n = length_used (take n s)
 
-pub length_all : (s : List (Option ℕ)) (n : ℕ) → length s ≤ n → length (codes s) ≡ upto s n
+pub length_all : (s : List (Option ℕ)) (n : ℕ) → length s ≤ n → length (codes s) ≡ used_upto s n
 length_all s n h = ap (λ (l : List (Option ℕ)). length (codes l)) (sym (take_all n s h)) ∙ length_codes s n
 
 codes_at : (s : List (Option ℕ)) (i c : ℕ) → i < length s → slice_index_or s i None ≡ Some c → codes s ≡ codes (take i s) ++ c ∷ codes (drop (suc i) s)
@@ -109,22 +109,22 @@ pub within : {A : Type 0} (s : List (Option A)) (i : ℕ) (c : A) → slice_inde
 within s i c u = ⊎_elim (λ (h : i < length s). h) (λ (h : length s ≤ i). let e = get_or_past s i None h in absurd cc) (cases_lt i (length s))
 
 -- the code of a used slot stands at the count before the slot
-pub code_at : (s : List (Option ℕ)) (i c : ℕ) → slice_index_or s i None ≡ Some c → (upto s i < length (codes s)) × (slice_index (codes s) (upto s i) ≡ c)
+pub code_at : (s : List (Option ℕ)) (i c : ℕ) → slice_index_or s i None ≡ Some c → (used_upto s i < length (codes s)) × (slice_index (codes s) (used_upto s i) ≡ c)
 code_at s i c u =
     let e = codes_at s i c (within s i c u) u in
     let n = length_codes s i in
     let l = ap length e ∙ length-append (codes (take i s)) (c ∷ codes (drop (suc i) s)) in
-    (omega arith, ap (λ (l : List ℕ). slice_index l (upto s i)) e ∙ get_or_at (codes (take i s)) c (codes (drop (suc i) s)) 0 (upto s i) n)
+    (omega arith, ap (λ (l : List ℕ). slice_index l (used_upto s i)) e ∙ get_or_at (codes (take i s)) c (codes (drop (suc i) s)) 0 (used_upto s i) n)
 
-coded : (s : List (Option ℕ)) (i : ℕ) (slot : Option ℕ) → slice_index_or s i None ≡ slot → IsSome slot → (upto s i < length (codes s)) × (slice_index_or s i None ≡ Some (slice_index (codes s) (upto s i)))
+coded : (s : List (Option ℕ)) (i : ℕ) (slot : Option ℕ) → slice_index_or s i None ≡ slot → IsSome slot → (used_upto s i < length (codes s)) × (slice_index_or s i None ≡ Some (slice_index (codes s) (used_upto s i)))
 coded s i None e u = absurd cc
 coded s i (Some c) e u = let a = code_at s i c e in (a.0, e ∙ ap Some (sym a.1))
 
-pub code_in : (s : List (Option ℕ)) (i : ℕ) → IsSome (slice_index_or s i None) → (upto s i < length (codes s)) × (slice_index_or s i None ≡ Some (slice_index (codes s) (upto s i)))
+pub code_in : (s : List (Option ℕ)) (i : ℕ) → IsSome (slice_index_or s i None) → (used_upto s i < length (codes s)) × (slice_index_or s i None ≡ Some (slice_index (codes s) (used_upto s i)))
 code_in s i u = coded s i (slice_index_or s i None) refl u
 
-pub code_place : (s : List (Option ℕ)) (ps : List (Option Slot)) (c i : ℕ) → HasPosition s ps → slice_index_or s i None ≡ Some c → place c (codes s) ≡ upto s i
-code_place s ps c i t e = let a = code_at s i c e in place_only c (upto s i) (codes s) (codes_once s ps t) a.0 a.1
+pub code_place : (s : List (Option ℕ)) (ps : List (Option Slot)) (c i : ℕ) → HasPosition s ps → slice_index_or s i None ≡ Some c → place c (codes s) ≡ used_upto s i
+code_place s ps c i t e = let a = code_at s i c e in place_only c (used_upto s i) (codes s) (codes_once s ps t) a.0 a.1
 
 pub codes_without : (s : List (Option ℕ)) (ps : List (Option Slot)) (c i : ℕ) → HasPosition s ps → slice_index_or s i None ≡ Some c → codes (slice_set s i None) ≡ without c (codes s)
 codes_without s ps c i t e =
@@ -152,4 +152,4 @@ codes_pushed s n c h l =
 
 -- no more codes than adds
 pub codes_few : (s : List (Option ℕ)) (n : ℕ) → FreeFrom n s → length (codes s) ≤ n
-codes_few s n l = let e = ap length (codes_before s n l) ∙ length_codes s n in omega (arith, upto_le s n)
+codes_few s n l = let e = ap length (codes_before s n l) ∙ length_codes s n in omega (arith, used_upto_le s n)

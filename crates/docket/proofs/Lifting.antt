@@ -1,12 +1,10 @@
 -- A step lifted. Assumes nothing.
-use Rattle.std.proofs.Common.{◌≡◌, ℕ, ◌+◌, ◌-◌, ◌<◌, ◌≤◌, false, List, [], ◌∷◌, ◌++◌, map, length, get_or, take, Ok, Err, sym, refl, ap, ◌∙◌, arith}
+use Rattle.std.proofs.Common.{◌≡◌, ℕ, ◌+◌, ◌-◌, ◌<◌, false, List, [], ◌∷◌, ◌++◌, map, length, get_or, take, Ok, Err, sym, refl, ap, ◌∙◌, arith}
 use Rattle.std.proofs.lemmas.List.{same_from_push, get_or-take, take_all, take_at}
 use Rattle.std.proofs.lemmas.Bool.{eq-eqb, ne_eqb, cond-true, cond-false}
 use Rattle.giving.specs.Lists.{SeatRule, times}
-use Rattle.giving.proofs.Counts.{times_take}
 use Rattle.order.specs.declared.operation.Paired.{Paired}
 use Rattle.order.specs.Steps.{operation, rank_error, passes_over, giving_after, rank_errors, lateness, adds_in}
-use Rattle.order.proofs.Sums.{passes_times}
 use Rattle.calls.specs.declared.fault.DocketFault.TheVariants.{NothingToLift}
 use Rattle.calls.specs.Rules.{lift_answer, without_last}
 use Rattle.docket.specs.declared.entry.Entry.{Entry}
@@ -17,11 +15,11 @@ use Rattle.docket.specs.InAgreement.{paired_in, ops_of, steps_of, InAgreement}
 use Rattle.holder.specs.Meanings.{Meaning}
 use Rattle.docket.specs.Moves.{replayed, with_late, one_less, with_flag, changed_at, changed_all}
 use Rattle.docket.proofs.PlacedSteps.{last_step}
-use Rattle.order.proofs.Sizes.{held_times}
+use Rattle.order.proofs.Sizes.{passes_held}
 use Rattle.order.proofs.Growing.{one_more_step}
 use Rattle.docket.proofs.Table.{keeps_one, map_keeps_one, map_keeps_all, late_down}
-use Rattle.docket.proofs.Holds.{replayed_held}
-use Rattle.docket.proofs.Placing.{long_steps, long_numbers, long_ranks, same_deeds}
+use Rattle.docket.proofs.HolderSteps.{replayed_held}
+use Rattle.docket.proofs.Placing.{long_steps, long_numbers, long_ranks, deeds_agree}
 
 -- what lift answers, and where there is no step also what it leaves
 module _ (l : Ledger) where
@@ -81,7 +79,7 @@ module _ (seat : SeatRule) (l u : Ledger) (x : ℕ)
     m_steps = ap (λ (v : ℕ). take v (numbers_in m.steps)) m-placed ∙ ap (λ (v : List Step). take u.placed (numbers_in v)) m-ss
 
     stand_is : ◌≡◌ {A = Meaning} (record { list = L; count = n }) (record { list = giving_after seat (ops_of u) (steps_of u); count = 0 + adds_in (ops_of u) (steps_of u) })
-    stand_is = stand ∙ replayed_held seat u.entries (ops_of u) (steps_of u) [] 0 (same_deeds u) (λ y. omega (arith, u.once y)) (omega (arith, long_steps u))
+    stand_is = stand ∙ replayed_held seat u.entries (ops_of u) (steps_of u) [] 0 (deeds_agree u) (λ y. omega (arith, u.once y)) (omega (arith, long_steps u))
 
     l_is : L ≡ giving_after seat (ops_of u) (steps_of u)
     l_is = ap (λ (s : Meaning). s.list) stand_is
@@ -109,14 +107,13 @@ module _ (seat : SeatRule) (l u : Ledger) (x : ℕ)
           let before : (entry_of l.entries y).late ≡ lateness seat (ops_of u) y (steps_of u) + passes_over y (rank_error (operation (ops_of u) x).deed H) H =
           i.lates y yn ∙ ap (lateness seat (ops_of l) y) l_steps ∙ ap (λ (o : List Paired). lateness seat o y (steps_of u ++ x ∷ [])) (sym u_ops) ∙ (one_more_step seat (ops_of u) (steps_of u) x).latenesses y in
           let same : passes_over y (rank_error (operation (ops_of u) x).deed H) H ≡ passes_over y r L = ap (λ (v : ℕ). passes_over y v H) (sym ranks_are.1) ∙ ap (passes_over y r) (sym l_is) in
-          let one : times y (take r L) ≤ 1 = omega (arith, times_take y r L, ap (times y) l_is, held_times seat (ops_of u) y (steps_of u) [], u.once y) in
-          let hit : passes_over y r L ≡ times y (take r L) = passes_times y r L one in
+          let hit = passes_held seat (ops_of u) y r (steps_of u) L l_is (u.once y) in
           let long : y < length u.entries = omega arith in
           let kept : (entry_of u.entries y).late ≡ (entry_of l.entries y).late =
           ap (λ (es : List Entry). (entry_of es y).late) u-es ∙ keeps_one (λ (v : Entry). v.late) (with_flag false) (λ v. refl) l.entries x y in
           let put : (entry_of m.entries y).late ≡ (entry_of u.entries y).late - times y (take r L) =
           ap (λ (es : List Entry). (entry_of es y).late) m-es ∙ late_down (take r L) u.entries y long in
-          omega (arith, before, same, hit, kept, put)
+          omega (arith, before, same, hit.0, kept, put)
 
       pub lifted_agrees : InAgreement seat L n m
       lifted_agrees = record {

@@ -5,11 +5,9 @@ use Rattle.std.proofs.ByRecursion.{All-from_get_or}
 use Rattle.std.proofs.lemmas.List.{take_more_set, length-take-le, length-map, get_or-map, take-map, get_or-take}
 use Rattle.std.proofs.lemmas.Bool.{cases_lt, cases_Bool, le-leb, cond-true, cond-false}
 use Rattle.giving.specs.Lists.{SeatRule, times}
-use Rattle.giving.proofs.Counts.{times_take}
 use Rattle.order.specs.declared.operation.Deed.{Deed}
 use Rattle.order.specs.declared.operation.Paired.{Paired}
 use Rattle.order.specs.Steps.{operation, has_rank, rank_error, after_step, passes_over, giving_after, rank_errors, lateness, items_added, adds_in}
-use Rattle.order.proofs.Sums.{passes_times}
 use Rattle.calls.specs.declared.fault.DocketFault.{DocketFault}
 use Rattle.calls.specs.declared.fault.DocketFault.TheVariants.{NoSuchOperation, PlacedAlready, NotHeld, AboveBound}
 use Rattle.calls.specs.Rules.{lowest, unplaced, waits_for, unless_early, place_answer}
@@ -21,13 +19,12 @@ use Rattle.docket.specs.InAgreement.{paired_in, ops_of, steps_of, InAgreement}
 use Rattle.holder.specs.Meanings.{Meaning}
 use Rattle.docket.specs.Moves.{stepped, rank_found, waits, judged, judged_rank, with_late, one_more, with_flag, changed_at, changed_all}
 use Rattle.docket.proofs.PlacedSteps.{lowest_position, lowest_ext, unflagged, room}
-use Rattle.docket.proofs.Turns.{judged_in}
-use Rattle.order.proofs.Sizes.{held_times, adds_le, late_le}
+use Rattle.docket.proofs.Judged.{judged_in}
+use Rattle.order.proofs.Sizes.{held_times, passes_held, adds_le, late_le}
 use Rattle.order.proofs.Growing.{one_more_step}
 use Rattle.docket.proofs.Table.{op_at, length_ops, keeps_one, map_keeps_one, map_keeps_all, late_up}
-use Rattle.docket.proofs.Holds.{SameDeed, stepped_after}
+use Rattle.docket.proofs.HolderSteps.{DeedAgrees, stepped_after}
 
--- ---- dockets
 -- ---- what holds of every ledger
 -- what stands past the last step
 abbrev pub no_step : Step
@@ -83,9 +80,9 @@ module _ (l : Ledger) where
   pub long_ops : length (ops_of l) ≡ l.count
   long_ops = length_ops l.entries l.count (omega arith)
 
-  pub same_deeds : AllByRecursion (SameDeed (λ L c. 0) l.entries (ops_of l)) (steps_of l)
-  same_deeds =
-      All-from_get_or (SameDeed (λ L c. 0) l.entries (ops_of l)) (steps_of l) 0
+  pub deeds_agree : AllByRecursion (DeedAgrees (λ L c. 0) l.entries (ops_of l)) (steps_of l)
+  deeds_agree =
+      All-from_get_or (DeedAgrees (λ L c. 0) l.entries (ops_of l)) (steps_of l) 0
       (λ i h.
       let im : i < l.placed = omega (arith, long_steps) in
       let e = get_or-take l.placed (numbers_in l.steps) i 0 im in
@@ -226,47 +223,46 @@ module _ (seat : SeatRule) (l m : Ledger) (L : List ℕ) (x r : ℕ)
   module _ (n n' : ℕ) (L' : List ℕ) (i : InAgreement seat L n l)
       (rank_is : r ≡ rank_error (entry_of l.entries x).paired.deed L)
       (stand_is : ◌≡◌ {A = Meaning} (record { list = L'; count = n' }) (stepped seat x (entry_of l.entries x).paired.deed (record { list = L; count = n }))) where
-    d : Deed
-    d = (operation (ops_of l) x).deed
+    deed : Deed
+    deed = (operation (ops_of l) x).deed
 
-    d_is : (entry_of l.entries x).paired.deed ≡ d
-    unfolding d
-    d_is = sym (ap (λ (o : Paired). o.deed) (op_is l x xn))
+    deed_is : (entry_of l.entries x).paired.deed ≡ deed
+    unfolding deed
+    deed_is = sym (ap (λ (o : Paired). o.deed) (op_is l x xn))
 
     once_held : (a : ℕ) → times a L ≤ times a (steps_of l)
     once_held a = omega (arith, ap (times a) i.gives, held_times seat (ops_of l) a (steps_of l) [])
 
-    after_is : ◌≡◌ {A = Meaning} (record { list = L'; count = n' }) (record { list = after_step seat x d L; count = n + items_added d })
+    after_is : ◌≡◌ {A = Meaning} (record { list = L'; count = n' }) (record { list = after_step seat x deed L; count = n + items_added deed })
     after_is =
-        stand_is ∙ ap (λ (e : Deed). stepped seat x e (record { list = L; count = n })) d_is
-        ∙ stepped_after seat x d L n (omega arith) (omega (arith, once_held x, new))
+        stand_is ∙ ap (λ (e : Deed). stepped seat x e (record { list = L; count = n })) deed_is
+        ∙ stepped_after seat x deed L n (omega arith) (omega (arith, once_held x, new))
         (omega (arith, i.added, adds_le (ops_of l) (steps_of l), long_steps l, fits))
 
-    r_is : r ≡ rank_error d (giving_after seat (ops_of l) (steps_of l))
-    r_is = rank_is ∙ ap (λ (e : Deed). rank_error e L) d_is ∙ ap (rank_error d) i.gives
+    r_is : r ≡ rank_error deed (giving_after seat (ops_of l) (steps_of l))
+    r_is = rank_is ∙ ap (λ (e : Deed). rank_error e L) deed_is ∙ ap (rank_error deed) i.gives
 
     placed_late : (y : ℕ) → y < l.count → (entry_of m.entries y).late ≡ lateness seat (ops_of l) y (steps_of l ++ x ∷ [])
-    unfolding d
+    unfolding deed
     placed_late y yn =
         let a = i.lates y yn in
-        let t : times y (take r L) ≤ 1 = omega (arith, times_take y r L, once_held y, l.once y) in
-        let b : passes_over y r L ≡ times y (take r L) = passes_times y r L t in
-        let e : passes_over y r L ≡ passes_over y (rank_error d (giving_after seat (ops_of l) (steps_of l))) (giving_after seat (ops_of l) (steps_of l)) =
-        ap (λ (v : ℕ). passes_over y v L) r_is ∙ ap (passes_over y (rank_error d (giving_after seat (ops_of l) (steps_of l)))) i.gives in
+        let b = passes_held seat (ops_of l) y r (steps_of l) L i.gives (l.once y) in
+        let e : passes_over y r L ≡ passes_over y (rank_error deed (giving_after seat (ops_of l) (steps_of l))) (giving_after seat (ops_of l) (steps_of l)) =
+        ap (λ (v : ℕ). passes_over y v L) r_is ∙ ap (passes_over y (rank_error deed (giving_after seat (ops_of l) (steps_of l)))) i.gives in
         let c = late_le seat (ops_of l) y (steps_of l) [] in
         let k : (entry_of m.entries y).late ≡ (get_or (changed_all (with_late one_more) l.entries (take r L)) y blank).late =
         ap (λ (es : List Entry). (entry_of es y).late) es-is ∙ keeps_one (λ (v : Entry). v.late) (with_flag true) (λ v. refl) (changed_all (with_late one_more) l.entries (take r L)) x y in
-        let u = late_up (take r L) l.entries y (omega arith) (omega (arith, a, t, c, long_steps l)) in
-        omega (arith, k, u, a, b, e, (one_more_step seat (ops_of l) (steps_of l) x).latenesses y)
+        let u = late_up (take r L) l.entries y (omega arith) (omega (arith, a, b.1, c, long_steps l)) in
+        omega (arith, k, u, a, b.0, e, (one_more_step seat (ops_of l) (steps_of l) x).latenesses y)
 
     pub placed_agrees : InAgreement seat L' n' m
-    unfolding d
+    unfolding deed
     placed_agrees = record {
       gives =
-          ap (λ (s : Meaning). s.list) after_is ∙ ap (after_step seat x d) i.gives ∙ sym (one_more_step seat (ops_of l) (steps_of l) x).giving
+          ap (λ (s : Meaning). s.list) after_is ∙ ap (after_step seat x deed) i.gives ∙ sym (one_more_step seat (ops_of l) (steps_of l) x).giving
           ∙ ap (giving_after seat (ops_of l)) (sym placed_steps) ∙ ap (λ (o : List Paired). giving_after seat o (steps_of m)) (sym placed_ops);
       added =
-          ap (λ (s : Meaning). s.count) after_is ∙ ap (λ (v : ℕ). v + items_added d) i.added ∙ sym (one_more_step seat (ops_of l) (steps_of l) x).adds
+          ap (λ (s : Meaning). s.count) after_is ∙ ap (λ (v : ℕ). v + items_added deed) i.added ∙ sym (one_more_step seat (ops_of l) (steps_of l) x).adds
           ∙ ap (adds_in (ops_of l)) (sym placed_steps) ∙ ap (λ (o : List Paired). adds_in o (steps_of m)) (sym placed_ops);
       lates = λ y yn.
           placed_late y (omega (arith, count_is, yn))

@@ -1,7 +1,7 @@
--- The table read as operations, and what changes of its entries leave. Assumes nothing.
-use Rattle.std.proofs.Common.{◌≡◌, ℕ, zero, suc, ◌+◌, ◌-◌, ◌<◌, ◌≤◌, eqb, List, [], ◌∷◌, map, length, take, sym, refl, ap, ◌∙◌, ⊎_elim, arith, length-set}
+-- The table read as operations, and its entries changed at one code after another: what that changes and what it leaves. Assumes nothing.
+use Rattle.std.proofs.Common.{◌≡◌, ℕ, zero, suc, ◌+◌, ◌-◌, ◌<◌, ◌≤◌, eqb, List, [], ◌∷◌, ◌++◌, map, length, get_or, take, sym, refl, ap, ◌∙◌, ⊎_elim, arith, length-set}
 use lib.ListN.{length-map}
-use Rattle.std.proofs.lemmas.List.{get_or-take, get_or-map, get_or-set_same, get_or-set_other, length-take-le}
+use Rattle.std.proofs.lemmas.List.{get_or-take, get_or-map, get_or-set_same, get_or-set_other, length-take-le, take_more}
 use Rattle.std.proofs.lemmas.Bool.{cases_eq, eq-eqb, ne_eqb, cond-true, cond-false}
 use Rattle.giving.specs.Lists.{times}
 use Rattle.order.specs.Steps.{operation}
@@ -86,3 +86,17 @@ flag_kept f es fs cs x e = ap (λ (v : List Entry). (entry_of v x).placed) e ∙
 
 pub flags_kept : (f : ℕ → ℕ) (l : Ledger) (fs : List Entry) (cs : List ℕ) → fs ≡ changed_all (with_late f) l.entries cs → Flagged fs l.count (numbers_in l.steps) l.placed
 flags_kept f l fs cs e = λ x h. flag_kept f l.entries fs cs x e ∙ l.flagged x h
+
+-- ---- the entries changed at one code after another
+module _ (f : Entry → Entry) where
+  pub changed_push : (es : List Entry) (cs : List ℕ) (c : ℕ) → changed_all f es (cs ++ c ∷ []) ≡ changed_at f (changed_all f es cs) c
+  unfolding changed_all
+  changed_push es [] c = refl
+  changed_push es (d ∷ cs) c = changed_push (changed_at f es d) cs c
+
+  pub changed_more : (es : List Entry) (L : List ℕ) (i : ℕ) → i < length L → changed_all f es (take (i + 1) L) ≡ changed_at f (changed_all f es (take i L)) (get_or L i 0)
+  changed_more es L i h = ap (changed_all f es) (take_more L i 0 h) ∙ changed_push es (take i L) (get_or L i 0)
+
+  -- a turn
+  pub changed_step : (es₀ es es' : List Entry) (L : List ℕ) (i c : ℕ) → i < length L → c ≡ get_or L i 0 → es ≡ changed_all f es₀ (take i L) → es' ≡ changed_at f es c → es' ≡ changed_all f es₀ (take (i + 1) L)
+  changed_step es₀ es es' L i c h is was put = put ∙ ap (changed_at f es) is ∙ ap (λ (e : List Entry). changed_at f e (get_or L i 0)) was ∙ sym (changed_more es₀ L i h)

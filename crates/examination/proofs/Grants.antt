@@ -10,7 +10,7 @@ use Rattle.calls.specs.Calls.{run}
 use Rattle.calls.specs.Rules.{Run, run_of, Buffers, is_too_short, certify_answer}
 use Rattle.calls.proofs.Grants.{granted_long, true_granted}
 use Rattle.calls.proofs.Law.{the_law}
-use Rattle.calls.proofs.Turns.{whole}
+use Rattle.calls.proofs.RunsAndLifts.{whole}
 use Rattle.examination.specs.Orders.{unless_stopped, refused_as, order_answer}
 use Rattle.examination.proofs.Runs.{ran_whole}
 

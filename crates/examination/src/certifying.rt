@@ -1,3 +1,4 @@
+// The examination of an order of the operations on a sheet.
 ghost use Rattle.std.specs.Prelude.{◌≡◌, true, false, length, is_ok};
 ghost use Rattle.order.specs.Orders.{TrueOrder};
 ghost use Rattle.calls.specs.Rules.{is_too_short};

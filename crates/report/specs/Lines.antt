@@ -7,15 +7,15 @@ use Rattle.sheet.specs.declared.operation.Operation.{Operation}
 use Rattle.calls.specs.declared.certificate.Certificate.{Certificate}
 
 -- a step, its operation, its rank error and its instant
-abbrev pub line_of_step : ℕ → ℕ → ℕ → ℕ → List ℕ
+unfoldable pub line_of_step : ℕ → ℕ → ℕ → ℕ → List ℕ
 line_of_step step operation rank at =
     codes "step " ++ (decimal step ++ (codes " op " ++ (decimal operation ++ (codes " rank " ++ (decimal rank ++ (codes " at " ++ (decimal at ++ codes "\n")))))))
 
 -- an add and its lateness
-abbrev pub line_of_late : ℕ → ℕ → List ℕ
+unfoldable pub line_of_late : ℕ → ℕ → List ℕ
 line_of_late number late = codes "late " ++ (decimal number ++ (codes " " ++ (decimal late ++ codes "\n")))
 
-abbrev pub line_of_certified : ℕ → Certificate → List ℕ
+unfoldable pub line_of_certified : ℕ → Certificate → List ℕ
 line_of_certified k c =
     codes "certified k " ++ (decimal k ++ (codes " total " ++ (decimal c.total ++ (codes " max " ++ (decimal c.largest ++ (codes " step " ++ (decimal c.first ++ codes "\n")))))))
 

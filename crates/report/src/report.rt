@@ -1,3 +1,4 @@
+// From the bytes of a trace to the text that is printed of it.
 ghost use Rattle.std.specs.Prelude.{◌≡◌, ℕ, true, IfOk, Some, MatchResult};
 ghost use Rattle.sheet.specs.Sheets.{entered};
 ghost use Rattle.std.specs.Option.{option_map};
@@ -39,7 +40,7 @@ impl From<AllocError> for ReportFault {
 }
 
 // What is said of an accepted trace, whose operations are on the sheet.
-fn examined<I: Item>(
+fn report_of_accepted<I: Item>(
     heap: Global,
     sheet: &Sheet<I>,
     accepted: &Accepted,
@@ -55,7 +56,7 @@ fn examined<I: Item>(
 }
 
 // The report of a fault.
-fn faulted(heap: Global, fault: CopyFault) -> Result<Report, ReportFault>
+fn report_of_fault(heap: Global, fault: CopyFault) -> Result<Report, ReportFault>
     ensures { MatchResult result (λ p. Some (verdict_in p) ≡ option_map refusing (copy_refusal fault)) (λ e. e ≡ NoMemory) }
 {
     let refusal = fault.refusal().ok_or(ReportFault::NoMemory)?;
@@ -74,9 +75,9 @@ fn report_of<I: Item>(heap: Global, bytes: &[u8]) -> Result<Report, ReportFault>
             if *out.as_slice() != *bytes {
                 return Err(ReportFault::NotItsOwnBytes);
             }
-            Ok(examined(heap, &sheet, &accepted)?)
+            Ok(report_of_accepted(heap, &sheet, &accepted)?)
         }
-        Err(fault) => faulted(heap, fault),
+        Err(fault) => report_of_fault(heap, fault),
     }
 }
 

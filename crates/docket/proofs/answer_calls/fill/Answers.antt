@@ -9,7 +9,7 @@ use Rattle.docket.specs.Buffers.{buffers_of, owned}
 use Rattle.docket.specs.Slots.{Keeps, call_of}
 use Rattle.docket.specs.Agreed.{steps_in, running, writing, replying, leaving}
 use Rattle.docket.proofs.Fronts.{same_buffers}
-use Rattle.docket.proofs.Slotted.{keeps_certify, owned_over}
+use Rattle.docket.proofs.AnsweredSlots.{keeps_certify, owned_over}
 use Rattle.docket.proofs.answer_calls.fill.Goals as goal
 
 pub returns-in-Place : goal.returns-in-Place

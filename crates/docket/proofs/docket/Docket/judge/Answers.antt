@@ -1,5 +1,5 @@
 use Rattle.std.proofs.Common.{sym, ◌∙◌}
-use Rattle.docket.proofs.Turns.{judged_beyond, judged_placed, judged_early, judged_above, judged_within}
+use Rattle.docket.proofs.Judged.{judged_beyond, judged_placed, judged_early, judged_above, judged_within}
 use Rattle.docket.proofs.docket.Docket.judge.Goals as goal
 
 pub returns-then-operation-ledger : goal.returns-then-operation-ledger

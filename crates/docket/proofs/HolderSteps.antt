@@ -35,11 +35,11 @@ stepped_after seat x TakeOfNone L n h z l = let e : n ≡ n + 0 = omega arith in
 stepped_after seat x FoundEmpty L n h z l = let e : n ≡ n + 0 = omega arith in ap (λ (m : ℕ). record { list = L; count = m }) e
 
 module _ (seat : SeatRule) (es : List Entry) (ops : List Paired) where
-  -- an operation of the table does what that of the list does
-  abbrev pub SameDeed : ℕ → Type 0
-  SameDeed x = (x < 1024) × ((entry_of es x).paired.deed ≡ (operation ops x).deed)
+  -- the operation x is of the table, and does there what it does among the operations
+  abbrev pub DeedAgrees : ℕ → Type 0
+  DeedAgrees x = (x < 1024) × ((entry_of es x).paired.deed ≡ (operation ops x).deed)
 
-  pub replayed_held : (p L : List ℕ) (n : ℕ) → AllByRecursion SameDeed p → ((y : ℕ) → times y L + times y p ≤ 1) → n + length p ≤ 1024
+  pub replayed_held : (p L : List ℕ) (n : ℕ) → AllByRecursion DeedAgrees p → ((y : ℕ) → times y L + times y p ≤ 1) → n + length p ≤ 1024
       → replayed seat es (record { list = L; count = n }) p ≡ record { list = giving_from seat ops L p; count = n + adds_in ops p }
   unfolding replayed
   replayed_held [] L n all once few = let e : n ≡ n + 0 = omega arith in ap (λ (m : ℕ). record { list = L; count = m }) e
