@@ -8,7 +8,7 @@ use Rattle.frame.specs.Orders.{numbers_of}
 use Rattle.turns.specs.declared.calls.HolderCall.{HolderCall}
 use Rattle.turns.specs.declared.calls.HolderCall.TheVariants.{Clear, Count, Rank, At, Add, Take}
 use Rattle.calls.specs.Rules.{Buffers}
-use Rattle.docket.specs.InAgreement.{three}
+use Rattle.docket.specs.Buffers.{buffers_of}
 use Rattle.docket.specs.declared.slot.Slot.{Slot}
 use Rattle.docket.specs.Slots.{call_of}
 use Rattle.calls.specs.Calls.{Call, place, run, lift, certify}
@@ -44,7 +44,7 @@ holder_calls bytes = all_pieces front_holder_call bytes
 
 -- new buffers with so many entries, all bits set in each
 abbrev pub blank_buffers : ℕ → ℕ → ℕ → Buffers
-blank_buffers ranks instants latenesses = three (replicate ranks 65535) (replicate instants 18446744073709551615) (replicate latenesses 65535)
+blank_buffers ranks instants latenesses = buffers_of (replicate ranks 65535) (replicate instants 18446744073709551615) (replicate latenesses 65535)
 
 -- a run along so many numbers at the front of bytes, and what is behind it
 abbrev pub run_of_numbers : ℕ → List ℕ → Option (Call × List ℕ)

@@ -10,11 +10,11 @@ use Rattle.giving.proofs.Counts.{times_push, times_self, times_other}
 use Rattle.order.proofs.Sums.{sum_below_times, sum_below_full}
 use Rattle.calls.specs.Rules.{lowest}
 use Rattle.docket.specs.declared.entry.Entry.{Entry}
-use Rattle.docket.specs.Kept.{entry_of, Known, Flagged}
+use Rattle.docket.specs.Kept.{entry_of, StepsAreOperations, Flagged}
 use Rattle.docket.specs.Moves.{with_flag, changed_at}
 use Rattle.docket.proofs.Table.{changed_here, changed_there}
 
-pub known_all : (n m : ℕ) (ss : List ℕ) → m ≤ length ss → Known n ss m → AllByRecursion (λ x. x < n) (take m ss)
+pub known_all : (n m : ℕ) (ss : List ℕ) → m ≤ length ss → StepsAreOperations n ss m → AllByRecursion (λ x. x < n) (take m ss)
 known_all n m ss l h =
     let e = length-take-le m ss l in
     All-from_get_or (λ (x : ℕ). x < n) (take m ss) 0 (λ i il. let im : i < m = omega arith in rw get_or-take (h i im))
@@ -24,7 +24,7 @@ pub unflagged : (b : Bool) (t : ℕ) → b ≡ not (eqb t 0) → b ≡ false →
 unflagged b t e f = eqb-true t 0 (not-false (eqb t 0) (sym e ∙ f))
 
 -- while an operation is not placed, there is room for a step
-pub room : (n m x : ℕ) (ss : List ℕ) → m ≤ length ss → Known n ss m → Once (take m ss) → x < n → times x (take m ss) ≡ 0 → m < n
+pub room : (n m x : ℕ) (ss : List ℕ) → m ≤ length ss → StepsAreOperations n ss m → Once (take m ss) → x < n → times x (take m ss) ≡ 0 → m < n
 room n m x ss l known once xn z =
     ⊎_elim
     (λ (h : m < n). h)
@@ -36,7 +36,7 @@ room n m x ss l known once xn z =
     (cases_lt m n)
 
 module _ (ss : List ℕ) (m x : ℕ) (l : m < length ss) where
-  pub known_added : (n : ℕ) → Known n ss m → x < n → Known n (set ss m x) (m + 1)
+  pub known_added : (n : ℕ) → StepsAreOperations n ss m → x < n → StepsAreOperations n (set ss m x) (m + 1)
   known_added n known xn i il =
       ⊎_elim
       (λ (e : i ≡ m). let g : get_or (set ss m x) i 0 ≡ x = ap (λ (j : ℕ). get_or (set ss m x) j 0) e ∙ get_or-set_same ss m x 0 l in omega arith)

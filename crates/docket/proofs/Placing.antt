@@ -32,10 +32,10 @@ no_step = record { operation = 0; rank = 0 }
 
 module _ (l : Ledger) where
   pub long_numbers : length (numbers_in l.steps) ≡ 1024
-  long_numbers = length-map l.steps (λ s. s.operation) ∙ l.full.1
+  long_numbers = length-map l.steps (λ s. s.operation) ∙ l.lengths.1
 
   pub long_ranks : length (ranks_in l.steps) ≡ 1024
-  long_ranks = length-map l.steps (λ s. s.rank) ∙ l.full.1
+  long_ranks = length-map l.steps (λ s. s.rank) ∙ l.lengths.1
 
   pub long_steps : length (steps_of l) ≡ l.placed
   long_steps = length-take-le l.placed (numbers_in l.steps) (omega (arith, long_numbers))
@@ -88,6 +88,17 @@ module _ (l : Ledger) where
       let e = get_or-take l.placed (numbers_in l.steps) i 0 im in
       let xn : get_or (steps_of l) i 0 < l.count = omega (arith, e, l.known i im) in
       (omega arith, sym (ap (λ (o : Paired). o.deed) (op_is (get_or (steps_of l) i 0) xn))))
+
+-- a ledger with no step is in agreement with a holder that was cleared
+pub opened_agrees : (seat : SeatRule) (l : Ledger) (L : List ℕ) (n : ℕ) → l.placed ≡ 0 → ((x : ℕ) → (entry_of l.entries x).late ≡ 0) → L ≡ [] → n ≡ 0 → InAgreement seat L n l
+opened_agrees seat l L n z late empty none =
+    let no : steps_of l ≡ [] = ap (λ (m : ℕ). take m (numbers_in l.steps)) z in
+    record {
+      gives = empty ∙ sym (ap (giving_after seat (ops_of l)) no);
+      added = none ∙ sym (ap (adds_in (ops_of l)) no);
+      lates = (λ x h. late x ∙ sym (ap (lateness seat (ops_of l) x) no));
+      errors = ap (λ (m : ℕ). take m (ranks_in l.steps)) z ∙ sym (ap (rank_errors seat (ops_of l)) no);
+    }
 
 -- ---- the rules
 answered : List ℕ → ℕ → ℕ → ℕ → Bool → Option ℕ → Deed → List ℕ → Result ℕ DocketFault

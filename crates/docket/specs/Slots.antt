@@ -4,7 +4,7 @@ use Rattle.calls.specs.Rules.{Buffers}
 use Rattle.calls.specs.Calls.{Call, Answer, place, run, lift, certify, to_place, to_run, to_lift, to_certify}
 use Rattle.docket.specs.declared.slot.Slot.{Slot}
 use Rattle.docket.specs.declared.slot.Slot.TheVariants.{Place, Run, Lift, Certify}
-use Rattle.docket.specs.Lent.{owned}
+use Rattle.docket.specs.Buffers.{owned}
 
 -- the call that a slot asks
 abbrev pub call_of : Slot → Call

@@ -3,7 +3,7 @@ ghost use Rattle.std.specs.Prelude.{◌≡◌, true, false, length, is_ok, IfOk}
 ghost use Rattle.order.specs.Orders.{TrueOrder};
 ghost use Rattle.calls.specs.Meanings.{Granted};
 ghost use Rattle.calls.specs.Rules.{is_too_short};
-ghost use Rattle.docket.specs.Lent.{held, SameSlices};
+ghost use Rattle.docket.specs.Buffers.{held, SameSlices};
 ghost use Rattle.docket.specs.Pairs.{sheet_ops};
 ghost use Rattle.examination.specs.Orders.{order_answer, order_written};
 

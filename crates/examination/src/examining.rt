@@ -6,7 +6,7 @@ ghost use Rattle.frame.specs.Orders.{order_of};
 ghost use Rattle.trace.specs.Reading.{reading};
 ghost use Rattle.calls.specs.Rules.{is_too_short};
 ghost use Rattle.docket.specs.Pairs.{sheet_ops};
-ghost use Rattle.docket.specs.Lent.{held, SameSlices};
+ghost use Rattle.docket.specs.Buffers.{held, SameSlices};
 ghost use Rattle.examination.specs.Kinds.{seat_of};
 ghost use Rattle.examination.specs.Orders.{order_answer, order_written};
 ghost use Rattle.examination.specs.Traces.{examining, type_of, examination_of, TrueTraceOfEither, count_of, CertifiedOfEither};

@@ -3,7 +3,7 @@
 
 ghost use Rattle.std.specs.Prelude.{◌≡◌, false, length};
 ghost use Rattle.calls.specs.Rules.{is_too_short};
-ghost use Rattle.docket.specs.InAgreement.{three};
+ghost use Rattle.docket.specs.Buffers.{buffers_of};
 ghost use Rattle.examination.specs.Traces.{examination_of, TrueTraceOfEither, count_of, CertifiedOfEither};
 ghost use Rattle.report.specs.Reports.{report_on};
 ghost use Rattle.comparison.specs.Cases.{case_answer};
@@ -96,10 +96,10 @@ pub extern "C" fn examiner_certify(
     latenesses: &mut [u16],
     outcome: &mut PlainOutcome,
 )
-    ensures outcome { outcome.new ≡ plain (examination_of bytes.now (three ranks.old instants.old latenesses.old)).answer }
-    ensures written { three ranks.new instants.new latenesses.new ≡ (examination_of bytes.now (three ranks.old instants.old latenesses.old)).buffers }
-    ensures granted_exactly_when_true_order { (outcome.new.status ≡ 0 → TrueTraceOfEither bytes.now) × ((h : TrueTraceOfEither bytes.now) → is_too_short (count_of h) (three ranks.old instants.old latenesses.old) ≡ false → outcome.new.status ≡ 0) }
-    ensures granted_certificates_are_true { outcome.new.status ≡ 0 → CertifiedOfEither bytes.now (three ranks.old instants.old latenesses.old) (certificate_in outcome.new) (three ranks.new instants.new latenesses.new) }
+    ensures outcome { outcome.new ≡ plain (examination_of bytes.now (buffers_of ranks.old instants.old latenesses.old)).answer }
+    ensures written { buffers_of ranks.new instants.new latenesses.new ≡ (examination_of bytes.now (buffers_of ranks.old instants.old latenesses.old)).buffers }
+    ensures granted_exactly_when_true_order { (outcome.new.status ≡ 0 → TrueTraceOfEither bytes.now) × ((h : TrueTraceOfEither bytes.now) → is_too_short (count_of h) (buffers_of ranks.old instants.old latenesses.old) ≡ false → outcome.new.status ≡ 0) }
+    ensures granted_certificates_are_true { outcome.new.status ≡ 0 → CertifiedOfEither bytes.now (buffers_of ranks.old instants.old latenesses.old) (certificate_in outcome.new) (buffers_of ranks.new instants.new latenesses.new) }
 {
     let mut buffers = Buffers {
         ranks,

@@ -1,7 +1,7 @@
 use Rattle.std.proofs.Common.{◌≡◌, [], Some, None, Ok, Err, sym, ap, ◌∙◌}
 use Rattle.std.proofs.lemmas.Result.{err_from_is_err_and}
 use Rattle.calls.specs.Rules.{Run, run_of, certify_answer}
-use Rattle.docket.specs.Lent.{held}
+use Rattle.docket.specs.Buffers.{held}
 use Rattle.docket.specs.Pairs.{sheet_ops}
 use Rattle.examination.specs.Orders.{unless_stopped, refused_as, order_outcome, order_answer, order_written}
 use Rattle.examination.proofs.Grants.{granted_exactly, certificates_are_true}

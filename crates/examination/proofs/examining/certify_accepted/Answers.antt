@@ -1,7 +1,7 @@
 use Rattle.std.proofs.Common.{rules, ap, ◌∙◌}
 use Rattle.frame.specs.Kinds.{kind_number}
 use Rattle.frame.specs.Orders.{order_of}
-use Rattle.docket.specs.Lent.{held}
+use Rattle.docket.specs.Buffers.{held}
 use Rattle.docket.specs.Pairs.{sheet_ops}
 use Rattle.examination.specs.Kinds.{seat_of}
 use Rattle.examination.specs.Orders.{order_answer, order_written}

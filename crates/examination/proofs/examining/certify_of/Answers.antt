@@ -2,7 +2,7 @@ use Rattle.std.proofs.Common.{◌≡◌, min, length, Err, refl, sym, ap, ◌∙
 use Rattle.std.proofs.lemmas.Result.{err_from_is_err_and}
 use Rattle.sheet.specs.Sheets.{entered, room}
 use Rattle.trace.specs.Reading.{reading}
-use Rattle.docket.specs.Lent.{held}
+use Rattle.docket.specs.Buffers.{held}
 use Rattle.examination.specs.Traces.{Examined, examining}
 use Rattle.examination.proofs.Traces.{accepted_examined, refused_examined}
 use Rattle.examination.proofs.examining.certify_of.Goals as goal

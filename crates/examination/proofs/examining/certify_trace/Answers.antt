@@ -1,7 +1,7 @@
 use Rattle.std.proofs.Common.{◌≡◌, sym, ◌∙◌, arith}
 use Rattle.std.proofs.lemmas.Bool.Decides.{nat_tests}
 use Rattle.record.proofs.Digits.{bytes_of_type}
-use Rattle.docket.specs.Lent.{held}
+use Rattle.docket.specs.Buffers.{held}
 use Rattle.examination.specs.Traces.{type_of}
 use Rattle.examination.proofs.TrueTraces.{stamps_exactly, tickets_exactly, stamps_certified, tickets_certified}
 use Rattle.examination.proofs.examining.certify_trace.Goals as goal

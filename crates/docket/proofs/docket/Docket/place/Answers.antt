@@ -28,7 +28,7 @@ pub invariant_of-self : goal.invariant_of-self
 invariant_of-self g c =
     let l = c.args.self.now.ledger in
     let up = raised g (goal.at.invariant_of-self g c).After-change_latenesses in
-    ((c.change_latenesses.auto.entries ∙ l.full.0, l.full.1), (l.few, (l.known, (l.once, (flags_kept one_more l _ _ up, (awaits_late one_more l _ _ up, tt))))))
+    ((c.change_latenesses.auto.entries ∙ l.lengths.0, l.lengths.1), (l.counts_fit, (l.known, (l.once, (flags_kept one_more l _ _ up, (awaits_late one_more l _ _ up, tt))))))
 
 pub add_step-requires : goal.add_step-requires
 add_step-requires g c =
