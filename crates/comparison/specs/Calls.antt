@@ -31,10 +31,12 @@ call_of_tag tag bytes =
     cond (tag == 0) (Some (Clear, bytes))
     (cond (tag == 1) (Some (Count, bytes)) (with_number bytes (λ n rest. option_map (λ call. (call, rest)) (call_with_number tag n))))
 
+-- the call at the front of bytes, and what is behind it; none where no whole call stands there
 abbrev pub front_holder_call : List ℕ → Option (HolderCall × List ℕ)
 front_holder_call [] = None
 front_holder_call (tag ∷ bytes) = call_of_tag tag bytes
 
+-- the calls that bytes say, up to where no whole call stands
 abbrev pub holder_calls : List ℕ → List HolderCall
 holder_calls bytes = all_pieces front_holder_call bytes
 
@@ -55,12 +57,14 @@ docket_call_of_tag tag bytes =
     (cond (tag == 1) (with_number bytes run_of_numbers)
     (cond (tag == 2) (Some (lift, bytes))
     (cond (tag == 3)
-    (with_number bytes (λ ranks rest. with_number rest (λ instants rest2. with_number rest2 (λ latenesses rest3. Some (certify (blank_buffers ranks instants latenesses), rest3))))) None)))
+    (with_number bytes (λ ranks after_ranks. with_number after_ranks (λ instants after_instants. with_number after_instants (λ latenesses behind. Some (certify (blank_buffers ranks instants latenesses), behind))))) None)))
 
+-- the call at the front of bytes, and what is behind it; none where no whole call stands there
 abbrev pub front_docket_call : List ℕ → Option (Call × List ℕ)
 front_docket_call [] = None
 front_docket_call (tag ∷ bytes) = docket_call_of_tag tag bytes
 
+-- the calls that bytes say, up to where no whole call stands
 abbrev pub docket_calls : List ℕ → List Call
 docket_calls bytes = all_pieces front_docket_call bytes
 

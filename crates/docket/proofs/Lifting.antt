@@ -19,7 +19,7 @@ use Rattle.order.proofs.Sizes.{passes_held}
 use Rattle.order.proofs.Growing.{one_more_step}
 use Rattle.docket.proofs.Table.{keeps_one, map_keeps_one, map_keeps_all, late_down}
 use Rattle.docket.proofs.HolderSteps.{replayed_held}
-use Rattle.docket.proofs.Placing.{long_steps, long_numbers, long_ranks, deeds_agree}
+use Rattle.docket.proofs.Placing.{long_steps, long_numbers, long_ranks, deeds_agree, agrees_as}
 
 -- what lift answers, and where there is no step also what it leaves
 module _ (l : Ledger) where
@@ -87,13 +87,6 @@ module _ (seat : SeatRule) (l u : Ledger) (x : ℕ)
     n_is : n ≡ adds_in (ops_of u) (steps_of u)
     n_is = omega (arith, ap (λ (s : Meaning). s.count) stand_is)
 
-    -- the holder gives what the steps that are left come to, whatever it gave before
-    pub lifted_gives : L ≡ giving_after seat (ops_of m) (steps_of m)
-    lifted_gives = l_is ∙ ap (giving_after seat (ops_of u)) (sym m_steps) ∙ ap (λ (o : List Paired). giving_after seat o (steps_of m)) (sym m_to_u)
-
-    pub lifted_adds : n ≡ adds_in (ops_of m) (steps_of m)
-    lifted_adds = n_is ∙ ap (adds_in (ops_of u)) (sym m_steps) ∙ ap (λ (o : List Paired). adds_in o (steps_of m)) (sym m_to_u)
-
     module _ (K : List ℕ) (a : ℕ) (i : InAgreement seat K a l) where
       ranks_are : (take (l.placed - 1) (ranks_in l.steps) ≡ rank_errors seat (ops_of u) (steps_of u)) × (r ≡ rank_error (operation (ops_of u) x).deed (giving_after seat (ops_of u) (steps_of u)))
       ranks_are =
@@ -116,11 +109,6 @@ module _ (seat : SeatRule) (l u : Ledger) (x : ℕ)
           omega (arith, before, same, hit.0, kept, put)
 
       pub lifted_agrees : InAgreement seat L n m
-      lifted_agrees = record {
-        gives = lifted_gives;
-        added = lifted_adds;
-        lates = λ y yn. lifted_late y (omega (arith, m-count, u-count, yn)) ∙ ap (lateness seat (ops_of u) y) (sym m_steps) ∙ ap (λ (o : List Paired). lateness seat o y (steps_of m)) (sym m_to_u);
-        errors =
-            ap (λ (v : ℕ). take v (ranks_in m.steps)) (m-placed ∙ u-placed) ∙ ap (λ (v : List Step). take (l.placed - 1) (ranks_in v)) (m-ss ∙ u-ss) ∙ ranks_are.0
-            ∙ ap (rank_errors seat (ops_of u)) (sym m_steps) ∙ ap (λ (o : List Paired). rank_errors seat o (steps_of m)) (sym m_to_u);
-      }
+      lifted_agrees =
+          agrees_as seat m L n (ops_of u) (steps_of u) m_to_u m_steps l_is n_is (λ y yn. lifted_late y (omega (arith, m-count, u-count, yn)))
+          (ap (λ (v : ℕ). take v (ranks_in m.steps)) (m-placed ∙ u-placed) ∙ ap (λ (v : List Step). take (l.placed - 1) (ranks_in v)) (m-ss ∙ u-ss) ∙ ranks_are.0)

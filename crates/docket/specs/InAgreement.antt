@@ -7,6 +7,7 @@ use Rattle.docket.specs.declared.entry.Entry.{Entry}
 use Rattle.docket.specs.declared.ledger.Ledger.{Ledger}
 use Rattle.docket.specs.Kept.{entry_of, numbers_in, ranks_in}
 
+-- the operation of an entry
 abbrev pub paired_in : Entry → Paired
 paired_in e = e.paired
 

@@ -25,7 +25,7 @@ numbers_in ss = map (λ s. s.operation) ss
 abbrev pub ranks_in : List Step → List ℕ
 ranks_in ss = map (λ s. s.rank) ss
 
--- the entries and the steps are as many as the arrays have places
+-- table and steps have 1,024 entries each
 abbrev pub ArrayLengths : List Entry → List Step → Type 0
 ArrayLengths es ss = (length es ≡ 1024) × (length ss ≡ 1024)
 

@@ -6,12 +6,14 @@ use Rattle.docket.specs.declared.slot.Slot.{Slot}
 use Rattle.docket.specs.declared.slot.Slot.TheVariants.{Place, Run, Lift, Certify}
 use Rattle.docket.specs.Buffers.{owned}
 
+-- the call that a slot asks
 abbrev pub call_of : Slot → Call
 call_of (Place x a) = place x
 call_of (Run xs n s) = run (vec_items xs)
 call_of (Lift a) = lift
 call_of (Certify b a) = certify (owned b)
 
+-- the answer that it holds
 abbrev pub reply_of : Slot → Answer
 reply_of (Place x a) = to_place a
 reply_of (Run xs n s) = to_run n s

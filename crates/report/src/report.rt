@@ -1,5 +1,5 @@
 // From the bytes of a trace to the text that is printed of it.
-ghost use Rattle.std.specs.Prelude.{◌≡◌, ℕ, true, IfOk, Some, MatchResult};
+ghost use Rattle.std.specs.Prelude.{◌≡◌, ℕ, true, IfOk, Some, MatchResult, vec_len};
 ghost use Rattle.sheet.specs.Sheets.{entered};
 ghost use Rattle.std.specs.Option.{option_map};
 ghost use Rattle.frame.specs.Kinds.{kind_number};
@@ -12,11 +12,12 @@ ghost use Rattle.report.specs.declared.report.ReportFault.TheVariants.{NoMemory}
 ghost use Rattle.report.specs.Reports.{verdict_in, refusing, verdict_of_order, saying, report_on};
 
 use crate::verdict::{Report, refused, verdict_by_kind};
-use examination::examining::{blank_records, has_stamps};
+use examination::examining::{blank, has_stamps};
 use examination::proposal::Proposal;
 use item::item::Item;
 use item::stamp::Stamp;
 use item::ticket::Ticket;
+use sheet::operation::Operation;
 use sheet::sheet::Sheet;
 use std::alloc::{AllocError, Global};
 use trace::copy::copy;
@@ -37,6 +38,13 @@ impl From<AllocError> for ReportFault {
     fn from(_fault: AllocError) -> ReportFault {
         ReportFault::NoMemory
     }
+}
+
+// So many records, to be lent to a sheet. What they hold no rule decides.
+pub fn blank_records<I: Item>(heap: Global, count: usize) -> Result<Vec<Operation<I>>, AllocError>
+    ensures { IfOk result (λ v. vec_len v ≡ count) }
+{
+    vec![in heap; blank(); count]
 }
 
 // What is said of an accepted trace, whose operations are on the sheet.

@@ -4,7 +4,7 @@ use Rattle.calls.specs.Rules.{Run, run_of, certify_answer}
 use Rattle.docket.specs.Buffers.{held}
 use Rattle.docket.specs.Pairs.{sheet_ops}
 use Rattle.examination.specs.Orders.{unless_stopped, refused_as, order_outcome, order_answer, order_written}
-use Rattle.examination.proofs.Grants.{granted_exactly}
+use Rattle.examination.proofs.Grants.{granted_exactly, certificates_are_true}
 use Rattle.examination.proofs.Runs.{run_is, certified_answer}
 use Rattle.examination.proofs.certifying.certify_order.Goals as goal
 use Rattle.examination.proofs.certifying.certify_order.Goals.{After-certify}
@@ -46,6 +46,7 @@ returns-in_err-certify g c =
       written = a.1;
       lenders = c.certify.ensures.lenders;
       granted_exactly_when_true_order = λ long. granted_exactly g.H.Holder.seat ops p.k p.order.now b long c.from_residual.result said;
+      granted_certificates_are_true = certificates_are_true g.H.Holder.seat ops p.k p.order.now b c.from_residual.result (held c.certify.new.buffers) said a.1;
     }
 
 pub returns : goal.returns
@@ -60,4 +61,5 @@ returns g c =
       written = a.1;
       lenders = c.certify.ensures.lenders;
       granted_exactly_when_true_order = λ long. granted_exactly g.H.Holder.seat ops p.k p.order.now b long (Ok c.in_ok-certify.field-0) said;
+      granted_certificates_are_true = certificates_are_true g.H.Holder.seat ops p.k p.order.now b (Ok c.in_ok-certify.field-0) (held c.certify.new.buffers) said a.1;
     }
