@@ -4,3 +4,4 @@ pub mod Parts
 pub mod Fronts
 pub mod Files
 pub mod Slots
+pub mod ReadBack
