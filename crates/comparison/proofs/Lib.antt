@@ -5,3 +5,4 @@ pub mod Fronts
 pub mod Files
 pub mod Slots
 pub mod ReadBack
+pub mod CallsBack
