@@ -12,7 +12,8 @@ use Rattle.order.specs.Times.{Instants, earliest}
 use Rattle.order.specs.Orders.{Placed, TrueOrder}
 use Rattle.order.proofs.AddUp.{add_up}
 use Rattle.order.proofs.Whole.{placed_of_true}
-use Rattle.order.proofs.Earliest.{earliest_admits, earliest_below}
+use Rattle.order.proofs.Earliest.{earliest_below}
+use Rattle.order.proofs.InTime.{earliest_admits}
 use Rattle.order.proofs.Splits.{step_by_step}
 use Rattle.order.proofs.Stretches.{shortest, only}
 use Rattle.giving.specs.Fronts.{over}
@@ -85,7 +86,7 @@ module _ (seat : SeatRule) (ops : List Paired) (k : ℕ) where
         room = room;
         errors_by_step = λ u v x e.
             subst (Costs seat ops u x) (sym (over_at R b.ranks (length u) (omega (arith, before p u v x e, nR, g.1)))) (costs_at p u v x g.0 e);
-        instants = subst (Instants ops p) (sym tE) (earliest_admits ops 0 0 p t.timed.instants.0 (omega arith) t.timed.instants.1);
+        instants = subst (Instants ops p) (sym tE) (earliest_admits ops p t.timed.instants.0 t.timed.instants.1);
         least = λ ts i. subst (λ (l : List ℕ). AllZip ◌≤◌ l ts) (sym tE) (earliest_below ops 0 0 p ts (omega arith) i);
         latenesses = λ a l. over_at S b.latenesses a (omega (arith, nS)) ∙ get_or-map-range_with_len f 0 n a a 0 l (zero-add a);
         rest = (kept R b.ranks n nR room.0, kept E b.instants n nE room.1, kept S b.latenesses n nS room.2);
@@ -121,7 +122,7 @@ module _ (seat : SeatRule) (ops : List Paired) (k : ℕ) where
       let wR : w.ranks ≡ over R b.ranks = filled R b.ranks w.ranks n nR G.rest.0 (front R w.ranks n nR (omega arith) each-rank) in
       let wE : w.instants ≡ over E b.instants =
       filled E b.instants w.instants n nE G.rest.1
-      (both_least (take n w.instants) E (G.least E (earliest_admits ops 0 0 p t.timed.instants.0 (omega arith) t.timed.instants.1))
+      (both_least (take n w.instants) E (G.least E (earliest_admits ops p t.timed.instants.0 t.timed.instants.1))
       (earliest_below ops 0 0 p (take n w.instants) (omega arith) G.instants)) in
       let wS : w.latenesses ≡ over S b.latenesses =
       filled S b.latenesses w.latenesses n nS G.rest.2

@@ -133,8 +133,7 @@ module _ (seat : SeatRule) (ops : List Paired) (k : ℕ) (p : List ℕ) where
   pub sums : TrueOrder seat ops k p → (b : Buffers)
       → (sum (take (length ops) (written seat ops p b (Ok (certificate_of seat ops p))).ranks) ≡ passings_over seat ops p)
       × (sum (take (length ops) (written seat ops p b (Ok (certificate_of seat ops p))).latenesses) ≡ passings_over seat ops p)
-  sums t b =
-      (
-        ap sum (take_over (rank_errors seat ops p) b.ranks (length ops) (length_errors t)) ∙ add_up seat ops k p (placed_of_true seat ops k p t).0,
-        ap sum (take_over (latenesses_of seat ops p) b.latenesses (length ops) length_latenesses) ∙ sum_values (λ a. lateness seat ops a p) (length ops),
-      )
+  sums t b = (
+    ap sum (take_over (rank_errors seat ops p) b.ranks (length ops) (length_errors t)) ∙ add_up seat ops k p (placed_of_true seat ops k p t).0,
+    ap sum (take_over (latenesses_of seat ops p) b.latenesses (length ops) length_latenesses) ∙ sum_values (λ a. lateness seat ops a p) (length ops),
+  )

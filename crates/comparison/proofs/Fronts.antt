@@ -94,7 +94,7 @@ docket_shorter (tag ∷ bytes) p e =
     (within_either (length bytes) p (tag == 2) (within_rest lift bytes p)
     (within_either (length bytes) p (tag == 3)
     (within_number bytes _ p
-    (λ r rest h. within_number rest _ p (λ i rest2 h2. within_number rest2 _ p (λ t rest3 h3. within_rest (certify (blank_buffers r i t)) rest3 p h3) h2) h)) (within_none (length bytes) p)))) e in
+    (λ ranks rest h. within_number rest _ p (λ instants others g. within_number others _ p (λ latenesses behind f. within_rest (certify (blank_buffers ranks instants latenesses)) behind p f) g) h)) (within_none (length bytes) p)))) e in
     omega arith
 
 -- ---- cases

@@ -17,6 +17,7 @@ use Rattle.counting.specs.Blocks.{used, worth, used_upto}
 use Rattle.counting.specs.Slots.{codes, slot_of, FreeFrom, HasPosition}
 use Rattle.counting.specs.Sums.{used_upto_le}
 
+-- ---- lists of slots: two of them, one more slot that is used or not, and none
 pub codes_append : (xs ys : List (Option ℕ)) → codes (xs ++ ys) ≡ codes xs ++ codes ys
 unfolding codes
 codes_append xs ys = filter_map-append (λ slot. slot) xs ys
@@ -40,10 +41,12 @@ length_used [] = refl
 length_used (None ∷ xs) = length_used xs
 length_used (Some c ∷ xs) = ap suc (length_used xs) ∙ sym (sum_by-cons worth (Some c) xs ∙ one-add (count_by used xs))
 
+-- of the first slots
 pub length_codes : (s : List (Option ℕ)) (n : ℕ) → length (codes (take n s)) ≡ used_upto s n
 unfolding used_upto
 length_codes s n = length_used (take n s)
 
+-- of all of them
 pub length_all : (s : List (Option ℕ)) (n : ℕ) → length s ≤ n → length (codes s) ≡ used_upto s n
 length_all s n h = ap (λ (l : List (Option ℕ)). length (codes l)) (sym (take_all n s h)) ∙ length_codes s n
 
@@ -55,6 +58,7 @@ codes_at s i c h u =
 codes_set : (s : List (Option ℕ)) (i : ℕ) (v : Option ℕ) → i < length s → codes (slice_set s i v) ≡ codes (take i s) ++ codes (v ∷ drop (suc i) s)
 codes_set s i v h = ap codes (set_split s i v h) ∙ codes_append (take i s) (v ∷ drop (suc i) s)
 
+-- where no slot is used there is no code
 pub codes_none : (xs : List (Option ℕ)) → ((k : ℕ) → slice_index_or xs k None ≡ None) → codes xs ≡ []
 codes_none [] f = codes_empty
 codes_none (x ∷ xs) f = ap (λ (o : Option ℕ). codes (o ∷ xs)) (f 0) ∙ codes_free xs ∙ codes_none xs (λ k. f (suc k))
@@ -95,6 +99,7 @@ once_single (Some c ∷ xs) o a =
     let z = times_nowhere xs c (λ h. o 0 (suc h.0) c (omega arith) refl h.1) in
     omega (arith, once_more a c (codes xs) z r)
 
+-- by the positions no code stands twice, and each is below 1,024
 pub codes_once : (s : List (Option ℕ)) (ps : List (Option Slot)) → HasPosition s ps → Once (codes s)
 codes_once s ps t = once_single s (λ i j c ij u v. let a = t i c u in let b = t j c v in let e : Some i ≡ Some j = sym a.1 ∙ b.1 in let n : i ≡ j = cc in omega arith)
 
@@ -105,6 +110,7 @@ codes_below s ps t a l = times_nowhere s a (λ h. let b = t h.0 a h.1 in omega a
 pub codes_absent : (s : List (Option ℕ)) (ps : List (Option Slot)) (c : ℕ) → HasPosition s ps → slot_of ps c ≡ None → times c (codes s) ≡ 0
 codes_absent s ps c t z = times_nowhere s c (λ h. let e = (t h.0 c h.1).1 in cc)
 
+-- a slot in which something stands is there: its number is below how many there are
 pub within : {A : Type 0} (s : List (Option A)) (i : ℕ) (c : A) → slice_index_or s i None ≡ Some c → i < length s
 within s i c u = ⊎_elim (λ (h : i < length s). h) (λ (h : length s ≤ i). let e = get_or_past s i None h in absurd cc) (cases_lt i (length s))
 
@@ -120,12 +126,15 @@ coded : (s : List (Option ℕ)) (i : ℕ) (slot : Option ℕ) → slice_index_or
 coded s i None e u = absurd cc
 coded s i (Some c) e u = let a = code_at s i c e in (a.0, e ∙ ap Some (sym a.1))
 
+-- the same of a used slot, whatever its code
 pub code_in : (s : List (Option ℕ)) (i : ℕ) → IsSome (slice_index_or s i None) → (used_upto s i < length (codes s)) × (slice_index_or s i None ≡ Some (slice_index (codes s) (used_upto s i)))
 code_in s i u = coded s i (slice_index_or s i None) refl u
 
+-- the place of a code is how many slots before its own are used
 pub code_place : (s : List (Option ℕ)) (ps : List (Option Slot)) (c i : ℕ) → HasPosition s ps → slice_index_or s i None ≡ Some c → place c (codes s) ≡ used_upto s i
 code_place s ps c i t e = let a = code_at s i c e in place_only c (used_upto s i) (codes s) (codes_once s ps t) a.0 a.1
 
+-- with its slot emptied, a code has left, and the others are as before
 pub codes_without : (s : List (Option ℕ)) (ps : List (Option Slot)) (c i : ℕ) → HasPosition s ps → slice_index_or s i None ≡ Some c → codes (slice_set s i None) ≡ without c (codes s)
 codes_without s ps c i t e =
     let h = within s i c e in
@@ -143,6 +152,7 @@ codes_before s n l =
     let rest : codes (drop n s) ≡ [] = codes_none (drop n s) (λ k. get_or-drop n s k None ∙ l (n + k) (omega arith)) in
     ap codes (sym (take-append-drop n s)) ∙ codes_append (take n s) (drop n s) ∙ ap (λ (l : List ℕ). codes (take n s) ++ l) rest ∙ append-nil (codes (take n s))
 
+-- a code that is put behind the used slots comes last
 pub codes_pushed : (s : List (Option ℕ)) (n c : ℕ) → n < length s → FreeFrom n s → codes (slice_set s n (Some c)) ≡ codes s ++ c ∷ []
 codes_pushed s n c h l =
     let A : List ℕ = codes (take n s) in

@@ -8,6 +8,7 @@ use Rattle.std.proofs.lemmas.Bool.{cases_lt, le-leb, lt-leb}
 use Rattle.counting.specs.LowestBit.{block_half, block_past}
 use Rattle.counting.specs.Blocks.{block, used, worth, used_upto, counted_from, BlockSums, Changed}
 
+-- of no position, of n, of more positions, and of one position more
 pub used_upto_none : (s : List (Option ℕ)) → used_upto s 0 ≡ 0
 unfolding used_upto
 used_upto_none s = refl
@@ -24,12 +25,14 @@ used_upto_more : (s : List (Option ℕ)) (i : ℕ) → i < length s → used_upt
 unfolding used_upto
 used_upto_more s i h = sum_by_more worth s i None h
 
+-- a position counts from itself on, and not before
 pub counted_from_on : (q w n : ℕ) → q ≤ n → counted_from q w n ≡ w
 counted_from_on q w n h = let e = le-leb q n h in rw e
 
 pub counted_from_off : (q w n : ℕ) → n < q → counted_from q w n ≡ 0
 counted_from_off q w n h = let e = lt-leb q n h in rw e
 
+-- a slot counts for 1 at most
 pub worth_le : (x : Option ℕ) → worth x ≤ 1
 worth_le None = omega arith
 worth_le (Some c) = omega arith
@@ -65,6 +68,7 @@ sum_enough sums s i long b p p0 p1 =
     let free : (n : ℕ) → counted_from (i + 1) (worth None) n ≡ 0 = λ n. ⊎_elim (λ (h : n < i + 1). counted_from_off (i + 1) 0 n h) (λ (h : i + 1 ≤ n). counted_from_on (i + 1) 0 n h) (cases_lt n (i + 1)) in
     omega (arith, used_upto_set s i None p (omega arith), used_upto_set s i None (p - block p) (omega arith), free p, free (p - block p), used_upto_mono (slice_set s i None) (p - block p) p (omega arith), b p p0 p1)
 
+-- the changed sums are those of the changed slots
 pub sums_set : (sums new : List ℕ) (s : List (Option ℕ)) (i : ℕ) (v : Option ℕ) → length s ≡ 1024 → BlockSums sums s → Changed (i + 1) (worth (slice_index_or s i None)) (worth v) sums new → BlockSums new (slice_set s i v)
 sums_set sums new s i v long b ch p p0 p1 = omega (arith, used_upto_set s i v p (omega arith), used_upto_set s i v (p - block p) (omega arith), b p p0 p1, ch p p0 p1)
 
@@ -75,6 +79,7 @@ used_upto_free m zero = refl
 used_upto_free zero (suc n) = refl
 used_upto_free (suc m) (suc n) = used_upto_free m n
 
+-- so the sums of new slots are all 0
 pub sums_free : BlockSums (replicate 1025 0) (replicate 1024 None)
 sums_free p s w =
     let d : slice_index_or {A = ℕ} (replicate 1025 0) p 0 ≡ 0 = get_or-replicate 1025 p 0 0 (omega arith) in
@@ -96,8 +101,10 @@ counted : (x : Option ℕ) → 0 < worth x → IsSome x
 counted None h = absurd (omega arith)
 counted (Some c) h = refl
 
+-- where the count goes up, the slot is used
 pub used_here : (s : List (Option ℕ)) (i : ℕ) → i < length s → used_upto s i < used_upto s (i + 1) → IsSome (slice_index_or s i None)
 used_here s i h l = counted (slice_index_or s i None) (omega (arith, used_upto_more s i h))
 
+-- and it goes up by 1 at most
 pub used_upto_one : (s : List (Option ℕ)) (i : ℕ) → i < length s → used_upto s (i + 1) ≤ used_upto s i + 1
 used_upto_one s i h = omega (arith, used_upto_more s i h, worth_le (slice_index_or s i None))

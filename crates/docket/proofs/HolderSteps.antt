@@ -1,8 +1,9 @@
 -- The holder after steps that the rules accept. Assumes nothing.
-use Rattle.std.proofs.Common.{◌≡◌, ℕ, ◌+◌, ◌<◌, ◌≤◌, true, false, eqb, leb, List, [], ◌∷◌, length, is_ok, refl, ap, ◌∙◌, arith}
+use Rattle.std.proofs.Common.{◌≡◌, ℕ, ◌+◌, ◌<◌, ◌≤◌, true, false, leb, List, [], ◌∷◌, length, is_ok, refl, ap, ◌∙◌, arith}
 use Rattle.std.specs.List.{AllByRecursion}
-use Rattle.std.proofs.lemmas.Bool.{eq-eqb, lt-leb, le-ltb, cond-true}
+use Rattle.std.proofs.lemmas.Bool.{lt-leb, le-ltb, cond-true}
 use Rattle.giving.specs.Lists.{SeatRule, times, without, stands}
+use Rattle.giving.proofs.Counts.{times_here}
 use Rattle.giving.proofs.Places.{place_absent}
 use Rattle.order.specs.declared.operation.Deed.{Deed}
 use Rattle.order.specs.declared.operation.Deed.TheVariants.{Add, Take, TakeOfNone, FoundEmpty}
@@ -45,7 +46,7 @@ module _ (seat : SeatRule) (es : List Entry) (ops : List Paired) where
   replayed_held [] L n all once few = let e : n ≡ n + 0 = omega arith in ap (λ (m : ℕ). record { list = L; count = m }) e
   replayed_held (x ∷ p) L n all once few =
       let d : Deed = (operation ops x).deed in
-      let hit = cond-true {A = ℕ} (eqb x x) 1 0 (eq-eqb x x refl) in
+      let hit = times_here x x p refl in
       let z : times x L ≡ 0 = omega (arith, once x) in
       let s : stepped seat x (entry_of es x).paired.deed (record { list = L; count = n }) ≡ record { list = after_step seat x d L; count = n + items_added d } =
       ap (λ (e : Deed). stepped seat x e (record { list = L; count = n })) all.0.1 ∙ stepped_after seat x d L n all.0.0 z (omega arith) in

@@ -11,3 +11,4 @@ pub mod Certified
 pub mod AnsweredSlots
 pub mod Made
 pub mod Awaiting
+pub mod Runs

@@ -1,9 +1,12 @@
 -- A step lifted. Assumes nothing.
-use Rattle.std.proofs.Common.{◌≡◌, ℕ, ◌+◌, ◌-◌, ◌<◌, false, List, [], ◌∷◌, ◌++◌, map, length, get_or, take, sym, refl, ap, ◌∙◌, arith}
-use Rattle.std.proofs.lemmas.List.{same_from_push}
+use Rattle.std.proofs.Common.{◌≡◌, ℕ, ◌+◌, ◌-◌, ◌<◌, false, List, [], ◌∷◌, ◌++◌, map, length, get_or, take, Ok, Err, sym, refl, ap, ◌∙◌, arith}
+use Rattle.std.proofs.lemmas.List.{same_from_push, get_or-take, take_all, take_at}
+use Rattle.std.proofs.lemmas.Bool.{eq-eqb, ne_eqb, cond-true, cond-false}
 use Rattle.giving.specs.Lists.{SeatRule, times}
 use Rattle.order.specs.declared.operation.Paired.{Paired}
 use Rattle.order.specs.Steps.{operation, rank_error, passes_over, giving_after, rank_errors, lateness, adds_in}
+use Rattle.calls.specs.declared.fault.DocketFault.TheVariants.{NothingToLift}
+use Rattle.calls.specs.Rules.{lift_answer, without_last}
 use Rattle.docket.specs.declared.entry.Entry.{Entry}
 use Rattle.docket.specs.declared.step.Step.{Step}
 use Rattle.docket.specs.declared.ledger.Ledger.{Ledger}
@@ -16,7 +19,21 @@ use Rattle.order.proofs.Sizes.{passes_held}
 use Rattle.order.proofs.Growing.{one_more_step}
 use Rattle.docket.proofs.Table.{keeps_one, map_keeps_one, map_keeps_all, late_down}
 use Rattle.docket.proofs.HolderSteps.{replayed_held}
-use Rattle.docket.proofs.Placing.{long_steps, long_numbers, long_ranks, deeds_agree}
+use Rattle.docket.proofs.Placing.{long_steps, long_numbers, long_ranks, deeds_agree, agrees_as}
+
+-- what lift answers, and where there is no step also what it leaves
+module _ (l : Ledger) where
+  pub lift_none : l.placed ≡ 0 → Err NothingToLift ≡ lift_answer (steps_of l)
+  lift_none z = sym (cond-true _ _ _ (eq-eqb (length (steps_of l)) 0 (omega (arith, long_steps l))))
+
+  pub lift_none_left : l.placed ≡ 0 → steps_of l ≡ without_last (steps_of l)
+  lift_none_left z = sym (take_all (length (steps_of l) - 1) (steps_of l) (omega (arith, long_steps l)))
+
+  pub lift_last : 0 < l.placed → (x : ℕ) → x ≡ get_or (numbers_in l.steps) (l.placed - 1) 0 → Ok x ≡ lift_answer (steps_of l)
+  lift_last pos x is =
+      let last : get_or (steps_of l) (length (steps_of l) - 1) 0 ≡ x =
+      ap (λ (n : ℕ). get_or (steps_of l) (n - 1) 0) (long_steps l) ∙ get_or-take l.placed (numbers_in l.steps) (l.placed - 1) 0 (omega arith) ∙ sym is in
+      ap Ok (sym last) ∙ sym (cond-false _ _ _ (ne_eqb (length (steps_of l)) 0 (λ z. omega (arith, long_steps l))))
 
 -- the last step taken out
 module _ (seat : SeatRule) (l u : Ledger) (x : ℕ)
@@ -36,6 +53,10 @@ module _ (seat : SeatRule) (l u : Ledger) (x : ℕ)
 
   l_steps : steps_of l ≡ steps_of u ++ x ∷ []
   l_steps = last_step (numbers_in l.steps) l.placed x pos (omega (arith, long_numbers l)) x-is ∙ ap (λ (v : List ℕ). v ++ x ∷ []) (sym u_steps)
+
+  pub lifted_steps : steps_of u ≡ without_last (steps_of l)
+  lifted_steps =
+      sym (ap (λ (n : ℕ). take (n - 1) (steps_of l)) (long_steps l) ∙ ap (take (l.placed - 1)) l_steps ∙ take_at (steps_of u) (x ∷ []) (l.placed - 1) (long_steps u ∙ u-placed))
 
   moved_ops : (es : List Entry) (cs : List ℕ) → es ≡ changed_all (with_late one_less) u.entries cs → take u.count (map paired_in es) ≡ ops_of u
   moved_ops es cs e = ap (take u.count) (ap (map paired_in) e ∙ map_keeps_all paired_in (with_late one_less) (λ e. refl) cs u.entries)
@@ -66,13 +87,6 @@ module _ (seat : SeatRule) (l u : Ledger) (x : ℕ)
     n_is : n ≡ adds_in (ops_of u) (steps_of u)
     n_is = omega (arith, ap (λ (s : Meaning). s.count) stand_is)
 
-    -- the holder gives what the steps that are left come to, whatever it gave before
-    pub lifted_gives : L ≡ giving_after seat (ops_of m) (steps_of m)
-    lifted_gives = l_is ∙ ap (giving_after seat (ops_of u)) (sym m_steps) ∙ ap (λ (o : List Paired). giving_after seat o (steps_of m)) (sym m_to_u)
-
-    pub lifted_adds : n ≡ adds_in (ops_of m) (steps_of m)
-    lifted_adds = n_is ∙ ap (adds_in (ops_of u)) (sym m_steps) ∙ ap (λ (o : List Paired). adds_in o (steps_of m)) (sym m_to_u)
-
     module _ (K : List ℕ) (a : ℕ) (i : InAgreement seat K a l) where
       ranks_are : (take (l.placed - 1) (ranks_in l.steps) ≡ rank_errors seat (ops_of u) (steps_of u)) × (r ≡ rank_error (operation (ops_of u) x).deed (giving_after seat (ops_of u) (steps_of u)))
       ranks_are =
@@ -95,11 +109,6 @@ module _ (seat : SeatRule) (l u : Ledger) (x : ℕ)
           omega (arith, before, same, hit.0, kept, put)
 
       pub lifted_agrees : InAgreement seat L n m
-      lifted_agrees = record {
-        gives = lifted_gives;
-        added = lifted_adds;
-        lates = λ y yn. lifted_late y (omega (arith, m-count, u-count, yn)) ∙ ap (lateness seat (ops_of u) y) (sym m_steps) ∙ ap (λ (o : List Paired). lateness seat o y (steps_of m)) (sym m_to_u);
-        errors =
-            ap (λ (v : ℕ). take v (ranks_in m.steps)) (m-placed ∙ u-placed) ∙ ap (λ (v : List Step). take (l.placed - 1) (ranks_in v)) (m-ss ∙ u-ss) ∙ ranks_are.0
-            ∙ ap (rank_errors seat (ops_of u)) (sym m_steps) ∙ ap (λ (o : List Paired). rank_errors seat o (steps_of m)) (sym m_to_u);
-      }
+      lifted_agrees =
+          agrees_as seat m L n (ops_of u) (steps_of u) m_to_u m_steps l_is n_is (λ y yn. lifted_late y (omega (arith, m-count, u-count, yn)))
+          (ap (λ (v : ℕ). take v (ranks_in m.steps)) (m-placed ∙ u-placed) ∙ ap (λ (v : List Step). take (l.placed - 1) (ranks_in v)) (m-ss ∙ u-ss) ∙ ranks_are.0)

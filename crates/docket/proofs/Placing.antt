@@ -15,7 +15,7 @@ use Rattle.docket.specs.declared.entry.Entry.{Entry}
 use Rattle.docket.specs.declared.step.Step.{Step}
 use Rattle.docket.specs.declared.ledger.Ledger.{Ledger}
 use Rattle.docket.specs.Kept.{blank, entry_of, numbers_in, ranks_in}
-use Rattle.docket.specs.InAgreement.{paired_in, ops_of, steps_of, InAgreement}
+use Rattle.docket.specs.InAgreement.{paired_in, ops_of, steps_of, errors_of, InAgreement}
 use Rattle.holder.specs.Meanings.{Meaning}
 use Rattle.docket.specs.Moves.{stepped, rank_found, waits, judged, judged_rank, with_late, one_more, with_flag, changed_at, changed_all}
 use Rattle.docket.proofs.PlacedSteps.{lowest_position, lowest_ext, unflagged, room}
@@ -32,10 +32,10 @@ no_step = record { operation = 0; rank = 0 }
 
 module _ (l : Ledger) where
   pub long_numbers : length (numbers_in l.steps) ≡ 1024
-  long_numbers = length-map l.steps (λ s. s.operation) ∙ l.full.1
+  long_numbers = length-map l.steps (λ s. s.operation) ∙ l.lengths.1
 
   pub long_ranks : length (ranks_in l.steps) ≡ 1024
-  long_ranks = length-map l.steps (λ s. s.rank) ∙ l.full.1
+  long_ranks = length-map l.steps (λ s. s.rank) ∙ l.lengths.1
 
   pub long_steps : length (steps_of l) ≡ l.placed
   long_steps = length-take-le l.placed (numbers_in l.steps) (omega (arith, long_numbers))
@@ -88,6 +88,17 @@ module _ (l : Ledger) where
       let e = get_or-take l.placed (numbers_in l.steps) i 0 im in
       let xn : get_or (steps_of l) i 0 < l.count = omega (arith, e, l.known i im) in
       (omega arith, sym (ap (λ (o : Paired). o.deed) (op_is (get_or (steps_of l) i 0) xn))))
+
+-- a ledger with no step is in agreement with a holder that was cleared
+pub opened_agrees : (seat : SeatRule) (l : Ledger) (L : List ℕ) (n : ℕ) → l.placed ≡ 0 → ((x : ℕ) → (entry_of l.entries x).late ≡ 0) → L ≡ [] → n ≡ 0 → InAgreement seat L n l
+opened_agrees seat l L n z late empty none =
+    let no : steps_of l ≡ [] = ap (λ (m : ℕ). take m (numbers_in l.steps)) z in
+    record {
+      gives = empty ∙ sym (ap (giving_after seat (ops_of l)) no);
+      added = none ∙ sym (ap (adds_in (ops_of l)) no);
+      lates = (λ x h. late x ∙ sym (ap (lateness seat (ops_of l) x) no));
+      errors = ap (λ (m : ℕ). take m (ranks_in l.steps)) z ∙ sym (ap (rank_errors seat (ops_of l)) no);
+    }
 
 -- ---- the rules
 answered : List ℕ → ℕ → ℕ → ℕ → Bool → Option ℕ → Deed → List ℕ → Result ℕ DocketFault
@@ -187,6 +198,16 @@ judged_rank_is m n x k b w d L v h f e =
     rank_of_answered m k w d L v
     (e ∙ judged_in m n x k b w (rank_found d L) h ∙ cond-false b _ _ f ∙ ap (unless_early m w) (rank_answered m k d L))
 
+-- ---- an agreement, by the operations and the steps that a ledger is known to have
+pub agrees_as : (seat : SeatRule) (l : Ledger) (L : List ℕ) (n : ℕ) (ops : List Paired) (p : List ℕ) → ops_of l ≡ ops → steps_of l ≡ p → L ≡ giving_after seat ops p → n ≡ adds_in ops p
+    → ((y : ℕ) → y < l.count → (entry_of l.entries y).late ≡ lateness seat ops y p) → errors_of l ≡ rank_errors seat ops p → InAgreement seat L n l
+agrees_as seat l L n ops p o s g a late e = record {
+  gives = g ∙ ap (giving_after seat ops) (sym s) ∙ ap (λ (v : List Paired). giving_after seat v (steps_of l)) (sym o);
+  added = a ∙ ap (adds_in ops) (sym s) ∙ ap (λ (v : List Paired). adds_in v (steps_of l)) (sym o);
+  lates = λ y h. late y h ∙ ap (lateness seat ops y) (sym s) ∙ ap (λ (v : List Paired). lateness seat v y (steps_of l)) (sym o);
+  errors = e ∙ ap (rank_errors seat ops) (sym s) ∙ ap (λ (v : List Paired). rank_errors seat v (steps_of l)) (sym o);
+}
+
 -- ---- a step placed
 module _ (seat : SeatRule) (l m : Ledger) (L : List ℕ) (x r : ℕ)
     (xn : x < l.count) (off : (entry_of l.entries x).placed ≡ false)
@@ -246,19 +267,10 @@ module _ (seat : SeatRule) (l m : Ledger) (L : List ℕ) (x r : ℕ)
 
     pub placed_agrees : InAgreement seat L' n' m
     unfolding deed
-    placed_agrees = record {
-      gives =
-          ap (λ (s : Meaning). s.list) after_is ∙ ap (after_step seat x deed) i.gives ∙ sym (one_more_step seat (ops_of l) (steps_of l) x).giving
-          ∙ ap (giving_after seat (ops_of l)) (sym placed_steps) ∙ ap (λ (o : List Paired). giving_after seat o (steps_of m)) (sym placed_ops);
-      added =
-          ap (λ (s : Meaning). s.count) after_is ∙ ap (λ (v : ℕ). v + items_added deed) i.added ∙ sym (one_more_step seat (ops_of l) (steps_of l) x).adds
-          ∙ ap (adds_in (ops_of l)) (sym placed_steps) ∙ ap (λ (o : List Paired). adds_in o (steps_of m)) (sym placed_ops);
-      lates = λ y yn.
-          placed_late y (omega (arith, count_is, yn))
-          ∙ ap (lateness seat (ops_of l) y) (sym placed_steps) ∙ ap (λ (o : List Paired). lateness seat o y (steps_of m)) (sym placed_ops);
-      errors =
-          ap (λ (v : ℕ). take v (ranks_in m.steps)) placed-is ∙ ap (take (l.placed + 1)) rs-is ∙ take_more_set (ranks_in l.steps) l.placed r (omega (arith, fits, long_ranks l))
-          ∙ ap (λ (v : List ℕ). v ++ r ∷ []) i.errors ∙ ap (λ (v : ℕ). rank_errors seat (ops_of l) (steps_of l) ++ v ∷ []) r_is
-          ∙ sym (one_more_step seat (ops_of l) (steps_of l) x).errors_by_step
-          ∙ ap (rank_errors seat (ops_of l)) (sym placed_steps) ∙ ap (λ (o : List Paired). rank_errors seat o (steps_of m)) (sym placed_ops);
-    }
+    placed_agrees =
+        agrees_as seat m L' n' (ops_of l) (steps_of l ++ x ∷ []) placed_ops placed_steps
+        (ap (λ (s : Meaning). s.list) after_is ∙ ap (after_step seat x deed) i.gives ∙ sym (one_more_step seat (ops_of l) (steps_of l) x).giving)
+        (ap (λ (s : Meaning). s.count) after_is ∙ ap (λ (v : ℕ). v + items_added deed) i.added ∙ sym (one_more_step seat (ops_of l) (steps_of l) x).adds)
+        (λ y yn. placed_late y (omega (arith, count_is, yn)))
+        (ap (λ (v : ℕ). take v (ranks_in m.steps)) placed-is ∙ ap (take (l.placed + 1)) rs-is ∙ take_more_set (ranks_in l.steps) l.placed r (omega (arith, fits, long_ranks l))
+        ∙ ap (λ (v : List ℕ). v ++ r ∷ []) i.errors ∙ ap (λ (v : ℕ). rank_errors seat (ops_of l) (steps_of l) ++ v ∷ []) r_is ∙ sym (one_more_step seat (ops_of l) (steps_of l) x).errors_by_step)

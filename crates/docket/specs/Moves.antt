@@ -41,6 +41,7 @@ abbrev pub judged_rank : ℕ → ℕ → Option ℕ → Result ℕ DocketFault
 judged_rank m k None = Err (NotHeld m)
 judged_rank m k (Some r) = cond (nat_lt k r) (Err (AboveBound m r)) (Ok r)
 
+-- the answer: the first rule that the step breaks, or its rank error
 unfoldable pub judged : ℕ → ℕ → ℕ → ℕ → Bool → Option ℕ → Option ℕ → Result ℕ DocketFault
 judged m n x k placed w r = cond (nat_le n x) (Err (NoSuchOperation m)) (cond placed (Err (PlacedAlready m)) (unless_early m w (judged_rank m k r)))
 

@@ -9,6 +9,7 @@ use Rattle.item.specs.Lanes.{lane_number, lane_of}
 use Rattle.item.specs.Stamps.{stamp_number, StampFits, stamp_of, stamp_named}
 use Rattle.item.specs.LaneBits.{number_of_lane, number_small, lane_of_number}
 
+-- the number of a stamp that fits names that stamp
 pub stamp_there : (x : Stamp) → StampFits x → stamp_named (stamp_number x) ≡ Ok x
 stamp_there (Serial s) h =
     let c : s / 2 ^ 38 ≡ 0 = omega arith in
@@ -37,6 +38,7 @@ of_parts (suc zero) lane rest (InLane m s) l r e =
     (omega arith, omega arith)
 of_parts (suc (suc case)) lane rest x l r e = absurd (grind (arith, nat_tests))
 
+-- the stamp that a number names has that number, and fits
 pub stamp_back : (n : ℕ) (x : Stamp) → stamp_named n ≡ Ok x → (stamp_number x ≡ n) × StampFits x
 stamp_back n x e =
     let p = of_parts (n / 2 ^ 38) (n / 2 ^ 32 % 64) (n % 2 ^ 32) x (omega arith) (omega arith) e in

@@ -20,6 +20,7 @@ pub record Said : Type 0 where
   pub order : List ℕ
 
 module _ {I : Type 0} where
+  -- what contents say besides the operations
   abbrev pub saying_of : Contents I → Said
   saying_of c = record { kind = c.kind; k = c.k; order = c.order }
 
@@ -44,6 +45,7 @@ module _ {I : Type 0} where
   left_after (Ok u) os = going os
   left_after (Err r) os = stopped os r.place r.fault
 
+-- what an accepted trace says besides its operations
 abbrev pub said : Accepted → Said
 said a = record { kind = kind_number a.kind; k = a.k; order = order_of a.order }
 

@@ -28,19 +28,23 @@ pub data Outcome (I : Type 0) : Type 0 where
   accepted : Contents I → Outcome I
 
 module _ {I : Type 0} where
+  -- the operation, if the sheet took it
   abbrev pub if_entered : Operation I → Result ℕ SheetFault → Result (Operation I) EntryFault
   if_entered op (Ok number) = Ok op
   if_entered op (Err e) = Err (Sheet e)
 
+  -- what is taken with record i, by its operation or its fault, where os were entered before it
   abbrev pub after_record : List (Operation I) → ℕ → Result (Operation I) EntryFault → RecordsTaken I
   after_record os i (Ok op) = going (os ++ op ∷ [])
   after_record os i (Err e) = stopped os i e
 
+  -- what reading comes to once the records are taken, with the order that stands behind them
   abbrev pub outcome_after : Header → List ℕ → RecordsTaken I → Outcome I
   outcome_after h bs (going os) = accepted (contents (kind_number h.kind) h.k os (numbers_of h.count (drop (8 + 24 * h.count) bs)))
   outcome_after h bs (stopped os i e) = refused os i e
 
 module _ {I : Type 0} (t : Ghosts I) (room : ℕ) where
+  -- the operation that was decoded, if a sheet that holds os takes it
   abbrev pub if_decoded : List (Operation I) → Result (Operation I) RecordFault → Result (Operation I) EntryFault
   if_decoded os (Ok op) = if_entered op (enter_answer t.number room os op)
   if_decoded os (Err e) = Err (Record e)
@@ -49,6 +53,7 @@ module _ {I : Type 0} (t : Ghosts I) (room : ℕ) where
   abbrev pub operation_taken : List (Operation I) → List ℕ → Result (Operation I) EntryFault
   operation_taken os rec = if_decoded os (decode_record t rec)
 
+  -- what is taken with record i, after the records before it
   abbrev pub after_next : List ℕ → ℕ → RecordsTaken I → RecordsTaken I
   after_next bs i (going os) = after_record os i (operation_taken os (record_at i bs))
   after_next bs i (stopped os j e) = stopped os j e
@@ -58,6 +63,7 @@ module _ {I : Type 0} (t : Ghosts I) (room : ℕ) where
   records_taken bs zero = going []
   records_taken bs (suc i) = after_next bs i (records_taken bs i)
 
+  -- what reading comes to by what the header says
   abbrev pub outcome_by_header : List ℕ → Result Header FrameFault → Outcome I
   outcome_by_header bs (Err e) = unread e
   outcome_by_header bs (Ok h) = outcome_after h bs (records_taken bs h.count)
