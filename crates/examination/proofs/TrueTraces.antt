@@ -73,16 +73,26 @@ module _ {I : Type 0} (t : Ghosts I) where
   granted_true b (refused os i e) h = absurd (cc)
   granted_true b (accepted c) h = granted_is_true (seat_of c.kind) (paired_all t.number c.ops) c.k c.order b h
 
--- a trace of stamps is none of tickets, and the other way round: what holds of every true trace of the type that the header names
--- holds of every true trace
-module _ (bs : List ℕ) (P : TrueTraceOfEither bs → Type 0) where
-  pub stamps_alone : type_of bs ≡ 1 → ((h : TrueTrace stamp_items bs) → P (inr h)) → (h : TrueTraceOfEither bs) → P h
-  stamps_alone one f (inl h) = absurd (omega (arith, type_of_true ticket_items (omega arith) bs h))
-  stamps_alone one f (inr h) = f h
+-- a true trace is one of this item type, and has as many operations as such
+pub record IsOfType {I : Type 0} (t : Ghosts I) (bs : List ℕ) : Type 0 where
+  pub either : TrueTrace t bs → TrueTraceOfEither bs
+  pub count : (g : TrueTrace t bs) → count_of (either g) ≡ length g.contents.ops
+  pub only : (h : TrueTraceOfEither bs) → (g : TrueTrace t bs) × (h ≡ either g)
 
-  pub tickets_alone : (type_of bs ≡ 1 → ⊥) → ((h : TrueTrace ticket_items bs) → P (inl h)) → (h : TrueTraceOfEither bs) → P h
-  tickets_alone other f (inl h) = f h
-  tickets_alone other f (inr h) = absurd (other (type_of_true stamp_items (omega arith) bs h))
+-- a trace of stamps is none of tickets, and the other way round: its header names its item type
+only_stamps : (bs : List ℕ) → type_of bs ≡ 1 → (h : TrueTraceOfEither bs) → (g : TrueTrace stamp_items bs) × (h ≡ inr g)
+only_stamps bs one (inl h) = absurd (omega (arith, type_of_true ticket_items (omega arith) bs h))
+only_stamps bs one (inr h) = (h, refl)
+
+only_tickets : (bs : List ℕ) → (type_of bs ≡ 1 → ⊥) → (h : TrueTraceOfEither bs) → (g : TrueTrace ticket_items bs) × (h ≡ inl g)
+only_tickets bs other (inl h) = (h, refl)
+only_tickets bs other (inr h) = absurd (other (type_of_true stamp_items (omega arith) bs h))
+
+pub of_stamps : (bs : List ℕ) → type_of bs ≡ 1 → IsOfType stamp_items bs
+of_stamps bs one = record { either = λ g. inr g; count = λ g. refl; only = only_stamps bs one }
+
+pub of_tickets : (bs : List ℕ) → (type_of bs ≡ 1 → ⊥) → IsOfType ticket_items bs
+of_tickets bs other = record { either = λ g. inl g; count = λ g. refl; only = only_tickets bs other }
 
 -- an answer is a certificate exactly where the examination grants one, unless memory was wanting
 module _ (x : Examined) (b w : Buffers) where
@@ -96,24 +106,15 @@ module _ (x : Examined) (b w : Buffers) where
   examined_ok (Err (Refused f)) h e = let q : is_ok x.answer ≡ false = ap is_ok h.0 in absurd (cc)
   examined_ok (Err NoMemory) h e = inr refl
 
-module _ (bs : List ℕ) (bytes : Bytes bs) (b w : Buffers) (r : Result Certificate ExamineFault) where
-  abbrev Long : TrueTraceOfEither bs → Type 0
-  Long h = is_too_short (count_of h) b ≡ false
-
-  pub stamps_exactly : type_of bs ≡ 1 → Comes (examining stamp_items b (reading stamp_items 1024 bs)) b r w →
-      (is_ok r ≡ true → TrueTraceOfEither bs) × ((h : TrueTraceOfEither bs) → Long h → (is_ok r ≡ true) ⊎ (r ≡ Err NoMemory))
-  stamps_exactly one comes =
-      let o = reading stamp_items 1024 bs in
-      let x = examining stamp_items b o in (
-        λ e. inr (true_of_outcome stamp_items lawful_stamps bs bytes (granted_true stamp_items b o (ok_examined x b w r comes e))),
-        stamps_alone bs (λ h. Long h → (is_ok r ≡ true) ⊎ (r ≡ Err NoMemory)) one (λ h l. examined_ok x b w r comes (true_granted stamp_items lawful_stamps bs b h l)),
-      )
-
-  pub tickets_exactly : (type_of bs ≡ 1 → ⊥) → Comes (examining ticket_items b (reading ticket_items 1024 bs)) b r w →
-      (is_ok r ≡ true → TrueTraceOfEither bs) × ((h : TrueTraceOfEither bs) → Long h → (is_ok r ≡ true) ⊎ (r ≡ Err NoMemory))
-  tickets_exactly other comes =
-      let o = reading ticket_items 1024 bs in
-      let x = examining ticket_items b o in (
-        λ e. inl (true_of_outcome ticket_items lawful_tickets bs bytes (granted_true ticket_items b o (ok_examined x b w r comes e))),
-        tickets_alone bs (λ h. Long h → (is_ok r ≡ true) ⊎ (r ≡ Err NoMemory)) other (λ h l. examined_ok x b w r comes (true_granted ticket_items lawful_tickets bs b h l)),
-      )
+pub answered_exactly : {I : Type 0} (t : Ghosts I) → Lawful t → (bs : List ℕ) → Bytes bs → IsOfType t bs → (b w : Buffers) (r : Result Certificate ExamineFault) →
+    Comes (examining t b (reading t 1024 bs)) b r w →
+    (is_ok r ≡ true → TrueTraceOfEither bs) × ((h : TrueTraceOfEither bs) → is_too_short (count_of h) b ≡ false → (is_ok r ≡ true) ⊎ (r ≡ Err NoMemory))
+answered_exactly t law bs bytes type b w r comes =
+    let o = reading t 1024 bs in
+    let x = examining t b o in (
+      λ e. type.either (true_of_outcome t law bs bytes (granted_true t b o (ok_examined x b w r comes e))),
+      λ h long.
+          let g = type.only h in
+          let n : count_of h ≡ length g.0.contents.ops = ap (λ k. count_of k) g.1 ∙ type.count g.0 in
+          examined_ok x b w r comes (true_granted t law bs b g.0 (sym (ap (λ m. is_too_short m b) n) ∙ long)),
+    )
