@@ -19,6 +19,7 @@ use Rattle.trace.specs.Answers.{Said, read_answer}
 use Rattle.trace.specs.Faults.{entry_refusal, read_refusal}
 use Rattle.trace.specs.Reading.{Outcome, reading}
 use Rattle.trace.specs.Reading.Outcome.{unread, refused, accepted}
+use Rattle.calls.specs.declared.certificate.Certificate.{Certificate}
 use Rattle.calls.specs.declared.fault.DocketFault.{DocketFault}
 use Rattle.calls.specs.declared.fault.DocketFault.TheVariants.{StepsMissing}
 use Rattle.calls.specs.Faults.{docket_refusal}
@@ -43,6 +44,10 @@ behind before text h = omega (arith, length-append before text, h)
 refusing_not_empty : (r : Refusal) → NotEmpty (refusing r).text
 refusing_not_empty r = behind (refusal_line r) (codes "\n") (omega arith)
 
+certified_not_empty : (k : ℕ) (c : Certificate) → NotEmpty (line_of_certified k c)
+unfolding line_of_certified
+certified_not_empty k c = omega arith
+
 module _ {I : Type 0} (t : Ghosts I) where
   module _ (seat : SeatRule) (os : List (Operation I)) (k : ℕ) (p : List ℕ) where
     whole_not_empty : (m : Option ℕ) → NotEmpty (whole t seat os k p m).text
@@ -50,7 +55,7 @@ module _ {I : Type 0} (t : Ghosts I) where
     whole_not_empty None =
         let ops = paired_all t.number os in
         let b = figures_of seat ops p in
-        behind (lines_of_steps p b.ranks b.instants) _ (behind (lines_of_lates os b.latenesses) (line_of_certified k (certificate_of seat ops p)) (omega arith))
+        behind (lines_of_steps p b.ranks b.instants) _ (behind (lines_of_lates os b.latenesses) (line_of_certified k (certificate_of seat ops p)) (certified_not_empty k (certificate_of seat ops p)))
 
     stopping_not_empty : (s : Option DocketFault) → NotEmpty (stopping t seat os k p s).text
     stopping_not_empty (Some e) = refusing_not_empty (docket_refusal e)
