@@ -2,11 +2,11 @@
 use Rattle.std.proofs.Common.{◌≡◌, ℕ, ◌<◌, Bool, true, false, cond, leb, Ok, Err, Option, ⊎_elim, arith}
 use Rattle.std.proofs.lemmas.Bool.{cases_Bool, lt-leb, leb-false, cond-false}
 use Rattle.calls.specs.declared.fault.DocketFault.TheVariants.{PlacedAlready}
-use Rattle.calls.specs.Rules.{unless_early}
-use Rattle.docket.specs.Moves.{judged, judged_rank}
+use Rattle.calls.specs.Rules.{unless_early, bounded_rank}
+use Rattle.docket.specs.Moves.{judged}
 
 module _ (m n x k : ℕ) (b : Bool) (w r : Option ℕ) where
-  pub judged_in : x < n → judged m n x k b w r ≡ cond b (Err (PlacedAlready m)) (unless_early m w (judged_rank m k r))
+  pub judged_in : x < n → judged m n x k b w r ≡ cond b (Err (PlacedAlready m)) (unless_early m w (bounded_rank m k r))
   unfolding judged
   judged_in h = cond-false _ _ _ (lt-leb n x h)
 
