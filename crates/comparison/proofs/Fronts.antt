@@ -8,7 +8,7 @@ use Rattle.turns.specs.declared.calls.HolderCall.TheVariants.{Clear, Count}
 use Rattle.frame.specs.Orders.{numbers_of}
 use Rattle.calls.specs.Calls.{Call, place, run, lift, certify}
 use Rattle.comparison.specs.Pieces.{and_behind, first_pieces, all_pieces}
-use Rattle.comparison.specs.Calls.{with_number, call_with_number, front_holder_call, blank_buffers, run_of_numbers, front_docket_call}
+use Rattle.comparison.specs.Calls.{with_number, call_with_number, front_holder_call, blank_buffers, run_of_numbers, certify_of_numbers, front_docket_call}
 use Rattle.comparison.specs.Files.{Case, case_with_body, front_case}
 
 module _ {C : Type 0} (front : List ℕ → Option (C × List ℕ)) where
@@ -84,6 +84,11 @@ within_run count bytes p e =
     within_either (length bytes) p (nat_lt (length bytes) (2 * count)) (within_none (length bytes) p)
     (λ h. let inner = within_rest (run (numbers_of count (take (2 * count) bytes))) (drop (2 * count) bytes) p h in omega (arith, inner, length-drop (2 * count) bytes)) e
 
+within_certify : (bytes : List ℕ) (p : Call × List ℕ) → certify_of_numbers bytes ≡ Some p → length p.1 ≤ length bytes
+within_certify bytes p e =
+    within_number bytes _ p
+    (λ r rest h. within_number rest _ p (λ i rest2 h2. within_number rest2 _ p (λ t rest3 h3. within_rest (certify (blank_buffers r i t)) rest3 p h3) h2) h) e
+
 -- behind a call on a docket there is less
 pub docket_shorter : (bytes : List ℕ) (p : Call × List ℕ) → front_docket_call bytes ≡ Some p → length p.1 < length bytes
 docket_shorter [] p e = cc
@@ -92,9 +97,7 @@ docket_shorter (tag ∷ bytes) p e =
     within_either (length bytes) p (tag == 0) (within_number bytes _ p (λ x rest h. within_rest (place x) rest p h))
     (within_either (length bytes) p (tag == 1) (within_number bytes _ p (λ count rest h. within_run count rest p h))
     (within_either (length bytes) p (tag == 2) (within_rest lift bytes p)
-    (within_either (length bytes) p (tag == 3)
-    (within_number bytes _ p
-    (λ r rest h. within_number rest _ p (λ i rest2 h2. within_number rest2 _ p (λ t rest3 h3. within_rest (certify (blank_buffers r i t)) rest3 p h3) h2) h)) (within_none (length bytes) p)))) e in
+    (within_either (length bytes) p (tag == 3) (within_certify bytes p) (within_none (length bytes) p)))) e in
     omega arith
 
 -- ---- cases

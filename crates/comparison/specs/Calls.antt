@@ -1,5 +1,5 @@
 -- The calls that bytes say, one after another.
-use Rattle.std.specs.Prelude.{◌≡◌, ℕ, ◌*◌, cond, List, [], ◌∷◌, length, take, drop, replicate, Some, None, Option, Result, IfOk, IfSome, MatchOption, ◌==◌, nat_lt}
+use Rattle.std.specs.Prelude.{◌≡◌, ℕ, ◌*◌, cond, List, [], ◌∷◌, length, take, drop, replicate, Some, None, Option, Result, IfSome, MatchOption, MatchResult, ◌==◌, nat_lt}
 use Rattle.std.specs.Borrow.{Bor}
 use Rattle.std.specs.declared.alloc.AllocError.{AllocError}
 use Rattle.std.specs.Int.{from_be_bytes, w16}
@@ -48,14 +48,16 @@ blank_buffers ranks instants latenesses = three (replicate ranks 65535) (replica
 abbrev pub run_of_numbers : ℕ → List ℕ → Option (Call × List ℕ)
 run_of_numbers count bytes = cond (nat_lt (length bytes) (2 * count)) None (Some (run (numbers_of count (take (2 * count) bytes)), drop (2 * count) bytes))
 
+-- a certify into buffers of as many entries as three numbers at the front of bytes say, and what is behind it
+abbrev pub certify_of_numbers : List ℕ → Option (Call × List ℕ)
+certify_of_numbers bytes =
+    with_number bytes (λ ranks rest. with_number rest (λ instants rest2. with_number rest2 (λ latenesses rest3. Some (certify (blank_buffers ranks instants latenesses), rest3))))
+
 -- the call of a tag, and what is behind it
 abbrev pub docket_call_of_tag : ℕ → List ℕ → Option (Call × List ℕ)
 docket_call_of_tag tag bytes =
     cond (tag == 0) (with_number bytes (λ operation rest. Some (place operation, rest)))
-    (cond (tag == 1) (with_number bytes run_of_numbers)
-    (cond (tag == 2) (Some (lift, bytes))
-    (cond (tag == 3)
-    (with_number bytes (λ ranks rest. with_number rest (λ instants rest2. with_number rest2 (λ latenesses rest3. Some (certify (blank_buffers ranks instants latenesses), rest3))))) None)))
+    (cond (tag == 1) (with_number bytes run_of_numbers) (cond (tag == 2) (Some (lift, bytes)) (cond (tag == 3) (certify_of_numbers bytes) None)))
 
 abbrev pub front_docket_call : List ℕ → Option (Call × List ℕ)
 front_docket_call [] = None
@@ -64,11 +66,23 @@ front_docket_call (tag ∷ bytes) = docket_call_of_tag tag bytes
 abbrev pub docket_calls : List ℕ → List Call
 docket_calls bytes = all_pieces front_docket_call bytes
 
--- a slot that is made has the call at the front of the bytes
-abbrev pub AsksFront : List ℕ → Option (Result Slot AllocError × Bor (List ℕ)) → Type 0
-AsksFront bytes r = IfSome r (λ p. IfOk p.0 (λ slot. IfSome (front_docket_call bytes) (λ q. call_of slot ≡ q.0)))
+-- ---- slots for them
 
--- from one list of calls to another: the first call is taken, and a slot that is made has it; none where no call is left
+-- a slot for the call takes memory: for a run's order, or for a certify's buffers
+abbrev pub TakesMemory : Call → Type 0
+TakesMemory (place operation) = ⊥
+TakesMemory (run order) = Unit {0}
+TakesMemory lift = ⊥
+TakesMemory (certify buffers) = Unit {0}
+
+-- a slot that is made for a call has it, and memory is wanting only where one takes some
+abbrev pub IsSlotFor : Call → Result Slot AllocError → Type 0
+IsSlotFor call made = MatchResult made (λ slot. call_of slot ≡ call) (λ e. TakesMemory call)
+
+-- the slot is one for the call that is told
+abbrev pub AsksFor : Option (Call × List ℕ) → Option (Result Slot AllocError × Bor (List ℕ)) → Type 0
+AsksFor told r = IfSome r (λ p. IfSome told (λ q. IsSlotFor q.0 p.0))
+
+-- from one list of calls to another: the first call is taken, and a slot made for it; none where no call is left
 abbrev pub TakesFirst : List Call → Option (Result Slot AllocError) → List Call → Type 0
-TakesFirst before r after =
-    MatchOption r ((before ≡ []) × (after ≡ [])) (λ made. (call : Call) × (before ≡ call ∷ after) × IfOk made (λ slot. call_of slot ≡ call))
+TakesFirst before r after = MatchOption r ((before ≡ []) × (after ≡ [])) (λ made. (call : Call) × (before ≡ call ∷ after) × IsSlotFor call made)

@@ -2,13 +2,11 @@
 ghost use Rattle.std.specs.Prelude.{◌≡◌, ◌+◌, ◌<◌, ◌≤◌, ◌↔◌, length, take, drop, IsSome, MatchOption};
 ghost use Rattle.std.specs.Int.{from_be_bytes, w16};
 ghost use Rattle.std.specs.List.{IsSplitAt};
-ghost use Rattle.comparison.specs.Shorter.{IsShorterBehind};
 
 // The number at the front of the bytes, and the bytes behind it; none where no two bytes stand there.
 pub(crate) fn next_number(bytes: &[u8]) -> Option<(u16, &[u8])>
     ensures cases { MatchOption result (length bytes.now < 2) (λ p. (p.0 ≡ from_be_bytes w16 (take 2 bytes.now)) × (p.1.now ≡ drop 2 bytes.now)) }
     ensures variant { IsSome result ↔ (2 ≤ length bytes.now) }
-    ensures shorter { IsShorterBehind bytes.now result }
 {
     let (number, behind) = bytes.split_first_chunk::<2>()?;
     Some((u16::from_be_bytes(*number), behind))
