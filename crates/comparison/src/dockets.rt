@@ -147,6 +147,7 @@ fn all_slots(heap: Global, calls: &[u8]) -> Result<Vec<Slot>, AllocError>
 }
 
 // What a slot was answered.
+#[tactic(auto, unfolding(crate::specs::Words::words_of_answer))]
 fn slot_words(heap: Global, slot: &Slot) -> Result<String, AllocError>
     ensures { IfOk result (λ s. string_bytes s ≡ words_of_answer (reply_of slot.now)) }
 {
@@ -181,13 +182,13 @@ fn slots_words(heap: Global, slots: &[Slot]) -> Result<String, AllocError>
     let mut text = String::new(heap);
     for slot in slots {
         let words = slot_words(heap, slot)?;
-        text.push_str(words.as_str())?;
-        text.push_str("; ")?;
+        write!(text, "{words}; ")?;
     }
     Ok(text)
 }
 
 // What a holder still holds.
+#[tactic(auto, unfolding(crate::specs::Words::words_of_held))]
 fn held_words<H: Holder>(heap: Global, holder: &H) -> Result<String, AllocError>
     ensures { IfOk result (λ s. string_bytes s ≡ words_of_held (H.giving holder.now)) }
 {
@@ -196,24 +197,23 @@ fn held_words<H: Holder>(heap: Global, holder: &H) -> Result<String, AllocError>
     format!(in heap; "held {count} {hash}")
 }
 
-// The answers to the calls on a docket of the sheet, and what its holder still holds.
+// The answers to the calls in slots on a docket of the sheet, and what its holder then holds.
 fn docket_words<I: Item, H: Holder + Drop>(
     heap: Global,
     sheet: &Sheet<I>,
     holder: H,
     k: u16,
-    calls: &[u8],
+    slots: &mut [Slot],
 ) -> Result<String, AllocError>
-    ensures { IfOk result (λ s. string_bytes s ≡ words_of_session H.Holder.seat (sheet_ops I.Item.number sheet.now) k (docket_calls calls.now)) }
+    ensures { IfOk result (λ s. string_bytes s ≡ words_of_session H.Holder.seat (sheet_ops I.Item.number sheet.now) k (map call_of slots.old)) }
 {
-    let mut slots = all_slots(heap, calls)?;
-    let docket = answer_calls(sheet, holder, k, slots.as_mut_slice());
-    let answers = slots_words(heap, slots.as_slice())?;
-    let held = held_words(heap, &docket.close())?;
+    let holder = answer_calls(sheet, holder, k, slots).close();
+    let answers = slots_words(heap, slots)?;
+    let held = held_words(heap, &holder)?;
     format!(in heap; "docket {answers}{held}")
 }
 
-// The same on a new holder of a kind.
+// The same on a new holder of a kind, for all the calls that the bytes say.
 fn docket_words_by_kind<I: Item>(
     heap: Global,
     sheet: &Sheet<I>,
@@ -223,12 +223,14 @@ fn docket_words_by_kind<I: Item>(
 ) -> Result<String, AllocError>
     ensures { IfOk result (λ s. string_bytes s ≡ words_of_session (seat_of (kind_number kind)) (sheet_ops I.Item.number sheet.now) k (docket_calls calls.now)) }
 {
+    let mut slots = all_slots(heap, calls)?;
+    let slots = slots.as_mut_slice();
     // Kept (no plainer): the kind is known at run time only, and a match is what picks a holder's type then.
     match kind {
-        Kind::Queue => docket_words::<I, Queue>(heap, sheet, Queue::new(), k, calls),
-        Kind::Stack => docket_words::<I, Stack>(heap, sheet, Stack::new(), k, calls),
+        Kind::Queue => docket_words::<I, Queue>(heap, sheet, Queue::new(), k, slots),
+        Kind::Stack => docket_words::<I, Stack>(heap, sheet, Stack::new(), k, slots),
         Kind::CountingQueue => {
-            docket_words::<I, CountingQueue>(heap, sheet, CountingQueue::new(), k, calls)
+            docket_words::<I, CountingQueue>(heap, sheet, CountingQueue::new(), k, slots)
         }
     }
 }
