@@ -3,7 +3,7 @@ use Rattle.std.specs.Prelude.{◌≡◌, ℕ, ◌*◌, cond, List, [], ◌∷◌
 use Rattle.std.specs.Borrow.{Bor}
 use Rattle.std.specs.declared.alloc.AllocError.{AllocError}
 use Rattle.std.specs.Int.{from_be_bytes, w16}
-use Rattle.std.specs.Option.{option_map}
+use Rattle.std.specs.Option.{option_map, option_and_then}
 use Rattle.frame.specs.Orders.{numbers_of}
 use Rattle.turns.specs.declared.calls.HolderCall.{HolderCall}
 use Rattle.turns.specs.declared.calls.HolderCall.TheVariants.{Clear, Count, Rank, At, Add, Take}
@@ -14,10 +14,14 @@ use Rattle.docket.specs.Slots.{call_of}
 use Rattle.calls.specs.Calls.{Call, place, run, lift, certify}
 use Rattle.comparison.specs.Pieces.{all_pieces}
 
+-- the number of 2 bytes at the front, and the bytes behind it; none where there are fewer
+unfoldable pub front_number : List ℕ → Option (ℕ × List ℕ)
+front_number bytes = cond (nat_lt (length bytes) 2) None (Some (from_be_bytes w16 (take 2 bytes), drop 2 bytes))
+
 module _ {C : Type 0} where
-  -- what is said of the number of 2 bytes at the front and the bytes behind it; none where there are fewer
+  -- what is said of that number and what is behind it
   abbrev pub with_number : List ℕ → (ℕ → List ℕ → Option (C × List ℕ)) → Option (C × List ℕ)
-  with_number bytes say = cond (nat_lt (length bytes) 2) None (say (from_be_bytes w16 (take 2 bytes)) (drop 2 bytes))
+  with_number bytes say = option_and_then (λ p. say p.0 p.1) (front_number bytes)
 
 -- ---- on a holder
 
