@@ -4,7 +4,7 @@
 
 /* What came of an examination: those numbers that do not apply are 0. */
 struct outcome {
-    uint8_t status; /* 0 a certificate is granted, 1 refused, 2 there was not enough memory */
+    uint8_t status; /* 0 a certificate is granted, 1 refused, also where a buffer is too short */
     uint8_t layer;  /* of the refusal: 1 frame, 2 record, 3 item, 4 sheet, 5 docket, 6 holder */
     uint8_t number;
     uint16_t place;
@@ -21,6 +21,9 @@ void examiner_certify(const uint8_t *bytes, size_t length, uint16_t *ranks, size
 /* The text that `examine` prints, over the front of the memory where it fits, and its length: 0 for want of memory. */
 size_t examiner_report(const uint8_t *bytes, size_t length, uint8_t *text, size_t room);
 
+/* The answer to a case of docs/COMPARISON.md, in the same way. */
+size_t examiner_answer(uint8_t letter, const uint8_t *body, size_t length, uint8_t *text, size_t room);
+
 int main(void) {
     static uint8_t bytes[1 << 16], text[1 << 18];
     static uint16_t ranks[1024], latenesses[1024];
@@ -30,10 +33,8 @@ int main(void) {
     examiner_certify(bytes, length, ranks, 1024, instants, 1024, latenesses, 1024, &o);
     if (o.status == 0)
         printf("granted: total %u, largest %u at step %u\n", (unsigned)o.total, o.largest, o.first);
-    else if (o.status == 1)
-        printf("refused: layer %u, number %u, place %u, detail %u\n", o.layer, o.number, o.place, o.detail);
     else
-        printf("not enough memory\n");
+        printf("refused: layer %u, number %u, place %u, detail %u\n", o.layer, o.number, o.place, o.detail);
     size_t written = examiner_report(bytes, length, text, sizeof text);
     fwrite(text, 1, written <= sizeof text ? written : 0, stdout);
     return o.status;

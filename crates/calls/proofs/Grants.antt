@@ -10,10 +10,12 @@ use Rattle.calls.specs.declared.fault.DocketFault.{DocketFault}
 use Rattle.calls.specs.declared.fault.DocketFault.TheVariants.{BufferTooShort}
 use Rattle.calls.specs.declared.certificate.Certificate.{Certificate}
 use Rattle.order.specs.Steps.{rank_errors, sum_below, lateness, passings_over}
+use Rattle.order.specs.Times.{earliest}
 use Rattle.order.specs.Orders.{Placed, TrueOrder}
 use Rattle.order.proofs.Sums.{sum_below_times, sum_below_ones}
 use Rattle.order.proofs.Whole.{placed_of_true, true_of_placed, placed_known, placed_once}
 use Rattle.order.proofs.AddUp.{add_up}
+use Rattle.order.proofs.Earliest.{length_earliest}
 use Rattle.calls.specs.Rules.{Buffers, unplaced, missing, is_too_short, unless_missing, latenesses_of, certificate_of, certify_answer, written}
 use Rattle.calls.proofs.Lowest.{Lowest, lowest_is, same_lowest}
 use Rattle.order.proofs.Growing.{length_ranks}
@@ -117,15 +119,21 @@ module _ (seat : SeatRule) (ops : List Paired) (k : ℕ) (p : List ℕ) where
   true_granted t b s =
       answer_by seat ops p b None (none_missing t) ∙ cond-false (is_too_short (length ops) b) (Err (BufferTooShort (length ops))) (Ok (certificate_of seat ops p)) s
 
+  -- the three lists of a certificate have an entry for each operation
+  pub length_errors : TrueOrder seat ops k p → length (rank_errors seat ops p) ≡ length ops
+  length_errors t = length_ranks seat ops p [] ∙ (placed_of_true seat ops k p t).1
+
+  pub length_instants : TrueOrder seat ops k p → length (earliest ops p) ≡ length ops
+  length_instants t = length_earliest ops 0 p ∙ (placed_of_true seat ops k p t).1
+
+  pub length_latenesses : length (latenesses_of seat ops p) ≡ length ops
+  length_latenesses = length-map-range_with_len (λ a. lateness seat ops a p) 0 (length ops)
+
   -- the written rank errors and latenesses add up
   pub sums : TrueOrder seat ops k p → (b : Buffers)
       → (sum (take (length ops) (written seat ops p b (Ok (certificate_of seat ops p))).ranks) ≡ passings_over seat ops p)
       × (sum (take (length ops) (written seat ops p b (Ok (certificate_of seat ops p))).latenesses) ≡ passings_over seat ops p)
-  sums t b =
-      let g = placed_of_true seat ops k p t in
-      let R : List ℕ = rank_errors seat ops p in
-      let S : List ℕ = latenesses_of seat ops p in
-      let f : ℕ → ℕ = λ a. lateness seat ops a p in (
-        ap sum (take_over R b.ranks (length ops) (length_ranks seat ops p [] ∙ g.1)) ∙ add_up seat ops k p g.0,
-        ap sum (take_over S b.latenesses (length ops) (length-map-range_with_len f 0 (length ops))) ∙ sum_values f (length ops),
-      )
+  sums t b = (
+    ap sum (take_over (rank_errors seat ops p) b.ranks (length ops) (length_errors t)) ∙ add_up seat ops k p (placed_of_true seat ops k p t).0,
+    ap sum (take_over (latenesses_of seat ops p) b.latenesses (length ops) length_latenesses) ∙ sum_values (λ a. lateness seat ops a p) (length ops),
+  )

@@ -11,7 +11,7 @@ use Rattle.order.specs.Times.{precedes}
 use Rattle.order.specs.Orders.{Acceptable}
 use Rattle.order.proofs.Stretches.{shortest, has_one, only}
 use Rattle.calls.specs.Rules.{unplaced, waits_for, unless_early, place_answer}
-use Rattle.calls.specs.Meanings.{New, Waits, Free, Placing}
+use Rattle.calls.specs.Meanings.{NotPlaced, Waits, WaitsForNone, Placing}
 use Rattle.calls.proofs.Lowest.{Lowest, lowest_is, same_lowest}
 
 module _ (ops : List Paired) (p : List ℕ) (x : ℕ) where
@@ -69,7 +69,7 @@ module _ (seat : SeatRule) (ops : List Paired) (k : ℕ) (p : List ℕ) (x : ℕ
       elim (waits_for ops p x) as (λ o. Lowest (waiting ops p x) 0 n o → P (unless_early (length p) o ranked)) [
         | Some b ↦ λ h. (refl, ((l, z), waits ops p x b (omega arith) h.2, λ c u. waits_not ops p x c (h.3 c (omega arith) u)))
         | None ↦ λ h.
-            let free : Free ops p x = λ b w. waits_not ops p x b (h b (omega arith) (omega arith)) w in
+            let free : WaitsForNone ops p x = λ b w. waits_not ops p x b (h b (omega arith) (omega arith)) w in
             cond_both (not (has_rank deed held)) (Err (NotHeld (length p))) bounded P
             (λ e. (refl, ((l, z), free, λ r s. both_ways (has_rank deed held) (not-true (has_rank deed held) e) (has_one deed held r s))))
             (λ e2. let ok : has_rank deed held ≡ true = not-false (has_rank deed held) e2 in
@@ -93,15 +93,15 @@ module _ (seat : SeatRule) (ops : List Paired) (k : ℕ) (p : List ℕ) (x : ℕ
   to_fresh : x < length ops → place_answer seat ops k p x ≡ fresh
   to_fresh l = cond-false (leb (length ops) x) (Err (NoSuchOperation (length p))) fresh (lt-leb (length ops) x l)
 
-  to_timed : New ops p x → place_answer seat ops k p x ≡ timed
+  to_timed : NotPlaced ops p x → place_answer seat ops k p x ≡ timed
   to_timed h =
       to_fresh h.0 ∙ cond-false (not (unplaced p x)) (Err (PlacedAlready (length p))) timed (not_from_true (unplaced p x) (eq-eqb (times x p) 0 h.1))
 
-  to_ranked : New ops p x → Free ops p x → place_answer seat ops k p x ≡ ranked
+  to_ranked : NotPlaced ops p x → WaitsForNone ops p x → place_answer seat ops k p x ≡ ranked
   to_ranked h free =
       to_timed h ∙ ap (λ (o : Option ℕ). unless_early (length p) o ranked) (waits_is ops p x None (λ c l u. waits_false ops p x c (omega arith) (free c)))
 
-  to_bounded : New ops p x → Free ops p x → has_rank deed held ≡ true → place_answer seat ops k p x ≡ bounded
+  to_bounded : NotPlaced ops p x → WaitsForNone ops p x → has_rank deed held ≡ true → place_answer seat ops k p x ≡ bounded
   to_bounded h free ok = to_ranked h free ∙ cond-false (not (has_rank deed held)) (Err (NotHeld (length p))) bounded (not_from_true (has_rank deed held) ok)
 
   pub accepted : Acceptable ops k p held x → place_answer seat ops k p x ≡ Ok cost

@@ -15,8 +15,8 @@ use Rattle.calls.specs.Laws.{LawOfCalls}
 use Rattle.calls.proofs.Judged.{means, answer_is}
 use Rattle.calls.proofs.Steps.{placed_all}
 use Rattle.calls.proofs.Grants.{short_false, granted_is, granted_long, granted_true, true_granted}
-use Rattle.calls.proofs.Turns.{whole}
-use Rattle.calls.proofs.Filled.{costs_at, is_granted}
+use Rattle.calls.proofs.RunsAndLifts.{whole}
+use Rattle.calls.proofs.Granted.{costs_at, is_granted}
 use Rattle.calls.proofs.Sessions.{session, no_other, placed_append, answers_append}
 
 -- the whole law over a list of calls

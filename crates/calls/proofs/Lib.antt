@@ -2,7 +2,8 @@ pub mod Lowest
 pub mod Judged
 pub mod Steps
 pub mod Grants
-pub mod Turns
-pub mod Filled
+pub mod RunsAndLifts
+pub mod Largest
+pub mod Granted
 pub mod Sessions
 pub mod Law

@@ -17,8 +17,8 @@ use Rattle.calls.proofs.Lowest.{Lowest, lowest_is}
 use Rattle.calls.proofs.Judged.{judged, answer_is}
 use Rattle.calls.proofs.Steps.{placed_left}
 use Rattle.calls.proofs.Grants.{short_true, short_false, true_short, false_short, missing_is, by_size, answer_by, all_placed, true_granted}
-use Rattle.calls.proofs.Turns.{outcome, ran_is, ran_until_is, last_off, without_last_is, lift_is}
-use Rattle.calls.proofs.Filled.{is_granted, granted_same}
+use Rattle.calls.proofs.RunsAndLifts.{outcome, ran_is, ran_until_is, last_off, without_last_is, lift_is}
+use Rattle.calls.proofs.Granted.{is_granted, granted_same}
 
 module _ (seat : SeatRule) (ops : List Paired) (k : ℕ) where
   -- ---- the rules' answer to each call is one that happens

@@ -1,12 +1,12 @@
 -- Every call leaves placed steps. Assumes nothing.
-use Rattle.std.proofs.Common.{◌≡◌, ℕ, zero, suc, ◌+◌, ◌-◌, List, [], ◌∷◌, ◌++◌, length, take, Some, Ok, Err, Result, arith}
+use Rattle.std.proofs.Common.{◌≡◌, ℕ, zero, suc, ◌+◌, ◌-◌, List, [], ◌∷◌, ◌++◌, length, take, Ok, Err, Result, arith}
 use Rattle.giving.specs.Lists.{SeatRule, times}
 use Rattle.order.specs.declared.operation.Paired.{Paired}
 use Rattle.calls.specs.declared.fault.DocketFault.{DocketFault}
 use Rattle.order.specs.Steps.{operation, after_step, giving_from, giving_after}
 use Rattle.order.specs.Orders.{Acceptable, PlacedFrom, Placed}
 use Rattle.order.proofs.Splits.{same_times}
-use Rattle.calls.specs.Rules.{Run, joined, place_answer, run_of}
+use Rattle.calls.specs.Rules.{Run, joined, place_answer, unless_refused, run_of}
 use Rattle.calls.specs.Calls.{Call, place, run, lift, certify, left_by, placed_by}
 use Rattle.calls.specs.Meanings.{Placing}
 use Rattle.calls.proofs.Judged.{judged}
@@ -28,7 +28,7 @@ module _ (seat : SeatRule) (ops : List Paired) (k : ℕ) where
   placed_run : (xs p : List ℕ) (m : ℕ) → Placed seat ops k p → Placed seat ops k (run_of seat ops k p m xs).steps
   placed_run [] p m h = h
   placed_run (x ∷ xs) p m h =
-      let R : Result ℕ DocketFault → Run = λ a. elim a [ Ok r ↦ run_of seat ops k (p ++ (x ∷ [])) (suc m) xs | Err e ↦ record { steps = p; new = m; stopped = Some e } ] in
+      let R : Result ℕ DocketFault → Run = λ a. unless_refused p m a (run_of seat ops k (p ++ (x ∷ [])) (suc m) xs) in
       elim (place_answer seat ops k p x) as (λ a. Placing seat ops k p x a → Placed seat ops k (R a).steps)
       [ Ok r ↦ λ g. placed_run xs (p ++ (x ∷ [])) (suc m) (placed_one_more p x h g.0) | Err e ↦ λ g. h ] (judged seat ops k p x)
 

@@ -48,6 +48,7 @@ module _ (seat : SeatRule) (ops : List Paired) (k : ℕ) (calls : List Call) whe
   abbrev pub PlacedRankErrorsAreShortestStretches : Type 0
   PlacedRankErrorsAreShortestStretches = (u v : List ℕ) (x : ℕ) → steps ≡ u ++ (x ∷ v) → Costs seat ops u x (slice_index (rank_errors seat ops steps) (length u))
 
+  -- the rank errors add up to how often the steps passed over an item
   abbrev pub RankErrorsAddUpToPassingsOver : Type 0
   RankErrorsAddUpToPassingsOver = sum (rank_errors seat ops steps) ≡ passings_over seat ops steps
 

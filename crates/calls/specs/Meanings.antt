@@ -17,16 +17,16 @@ use Rattle.calls.specs.Rules.{Buffers}
 
 module _ (ops : List Paired) (p : List ℕ) (x : ℕ) where
   -- x is an operation that is not placed
-  abbrev pub New : Type 0
-  New = (x < length ops) × (times x p ≡ 0)
+  abbrev pub NotPlaced : Type 0
+  NotPlaced = (x < length ops) × (times x p ≡ 0)
 
   -- b precedes x and is not placed
   abbrev pub Waits : ℕ → Type 0
   Waits b = (b < length ops) × (times b p ≡ 0) × (precedes ops b x ≡ true)
 
   -- x waits for no operation
-  abbrev pub Free : Type 0
-  Free = (b : ℕ) → Waits b → ⊥
+  abbrev pub WaitsForNone : Type 0
+  WaitsForNone = (b : ℕ) → Waits b → ⊥
 
 -- r is the rank error of x after p: a shortest stretch has r items
 abbrev pub Costs : SeatRule → List Paired → List ℕ → ℕ → ℕ → Type 0
@@ -37,9 +37,9 @@ module _ (seat : SeatRule) (ops : List Paired) (k : ℕ) (p : List ℕ) (x : ℕ
   abbrev pub Breaks : DocketFault → Type 0
   Breaks (NoSuchOperation s) = length ops ≤ x
   Breaks (PlacedAlready s) = (x < length ops) × (0 < times x p)
-  Breaks (TooEarly s b) = New ops p x × Waits ops p x b × ((c : ℕ) → c < b → Waits ops p x c → ⊥)
-  Breaks (NotHeld s) = New ops p x × Free ops p x × ((r : ℕ) → Stretch (operation ops x).deed (giving_after seat ops p) r → ⊥)
-  Breaks (AboveBound s r) = New ops p x × Free ops p x × Costs seat ops p x r × (k < r)
+  Breaks (TooEarly s b) = NotPlaced ops p x × Waits ops p x b × ((c : ℕ) → c < b → Waits ops p x c → ⊥)
+  Breaks (NotHeld s) = NotPlaced ops p x × WaitsForNone ops p x × ((r : ℕ) → Stretch (operation ops x).deed (giving_after seat ops p) r → ⊥)
+  Breaks (AboveBound s r) = NotPlaced ops p x × WaitsForNone ops p x × Costs seat ops p x r × (k < r)
   Breaks NothingToLift = ⊥
   Breaks (StepsMissing s a) = ⊥
   Breaks (BufferTooShort n) = ⊥
@@ -65,8 +65,8 @@ InTurn seat ops k p (x ∷ xs) = Acceptable ops k p (giving_after seat ops p) x 
 -- ---- a certificate
 
 -- a buffer keeps its length, and what stands past its first n entries
-abbrev pub Kept : ℕ → List ℕ → List ℕ → Type 0
-Kept n old new = (length new ≡ length old) × (drop n new ≡ drop n old)
+abbrev pub KeptPast : ℕ → List ℕ → List ℕ → Type 0
+KeptPast n old new = (length new ≡ length old) × (drop n new ≡ drop n old)
 
 -- m is the largest of the first n of xs, and i the first place where it stands; of none, both are 0
 pub record Largest (n : ℕ) (xs : List ℕ) (m i : ℕ) : Type 0 where
@@ -83,7 +83,7 @@ pub record Granted (seat : SeatRule) (ops : List Paired) (k : ℕ) (p : List ℕ
   pub instants : Instants ops p (take (length ops) w.instants)
   pub least : (ts : List ℕ) → Instants ops p ts → AllZip ◌≤◌ (take (length ops) w.instants) ts
   pub latenesses : (a : ℕ) → a < length ops → slice_index w.latenesses a ≡ lateness seat ops a p
-  pub rest : Kept (length ops) b.ranks w.ranks × Kept (length ops) b.instants w.instants × Kept (length ops) b.latenesses w.latenesses
+  pub rest : KeptPast (length ops) b.ranks w.ranks × KeptPast (length ops) b.instants w.instants × KeptPast (length ops) b.latenesses w.latenesses
   pub total : c.total ≡ passings_over seat ops p
   pub total_of_ranks : c.total ≡ sum (take (length ops) w.ranks)
   pub total_of_latenesses : c.total ≡ sum (take (length ops) w.latenesses)

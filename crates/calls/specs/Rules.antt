@@ -53,11 +53,15 @@ pub record Run : Type 0 where
   pub new : ℕ
   pub stopped : Option DocketFault
 
+-- the run stopped by the answer to a step after the steps p, of which m are new, where it is a refusal, else the run R
+abbrev pub unless_refused : List ℕ → ℕ → Result ℕ DocketFault → Run → Run
+unless_refused p m (Ok r) R = R
+unless_refused p m (Err e) R = record { steps = p; new = m; stopped = Some e }
+
 -- the numbers of a list placed one after another until the first refusal; m are new before
 abbrev pub run_of : SeatRule → List Paired → ℕ → List ℕ → ℕ → List ℕ → Run
 run_of seat ops k p m [] = record { steps = p; new = m; stopped = None }
-run_of seat ops k p m (x ∷ xs) =
-    elim (place_answer seat ops k p x) [ Ok r ↦ run_of seat ops k (p ++ (x ∷ [])) (suc m) xs | Err e ↦ record { steps = p; new = m; stopped = Some e } ]
+run_of seat ops k p m (x ∷ xs) = unless_refused p m (place_answer seat ops k p x) (run_of seat ops k (p ++ (x ∷ [])) (suc m) xs)
 
 -- ---- lift
 
@@ -81,6 +85,7 @@ pub record Buffers : Type 0 where
 abbrev pub over_each : Buffers → Buffers → Buffers
 over_each xs b = record { ranks = over xs.ranks b.ranks; instants = over xs.instants b.instants; latenesses = over xs.latenesses b.latenesses }
 
+-- the largest of a list, and 0 of none
 abbrev pub largest_of : List ℕ → ℕ
 largest_of [] = 0
 largest_of (x ∷ xs) = max x (largest_of xs)
@@ -111,6 +116,7 @@ module _ (seat : SeatRule) (ops : List Paired) where
   abbrev pub figures_of : List ℕ → Buffers
   figures_of p = record { ranks = rank_errors seat ops p; instants = earliest ops p; latenesses = latenesses_of p }
 
+  -- what the certificate of the steps sums up
   abbrev pub certificate_of : List ℕ → Certificate
   certificate_of p = summed_up (rank_errors seat ops p)
 

@@ -7,7 +7,7 @@ use comparison::cases::Cases;
 use std::io::{Read, Write};
 
 // How many bytes a file of cases has at most; one more shows that a file is longer.
-const LIMIT: usize = 67_108_864;
+const LONGEST: usize = 67_108_864;
 
 // Answers the cases that the bytes hold.
 fn answer_all(rt: &HostRuntime, bytes: &[u8]) -> anyhow::Result<()> {
@@ -24,8 +24,8 @@ fn answer_all(rt: &HostRuntime, bytes: &[u8]) -> anyhow::Result<()> {
 
 fn run(rt: &HostRuntime) -> anyhow::Result<()> {
     let mut bytes = Vec::new(rt.alloc());
-    rt.stdin().take(LIMIT as u64 + 1).read_to_end(&mut bytes)?;
-    if bytes.len() > LIMIT {
+    rt.stdin().take(LONGEST as u64 + 1).read_to_end(&mut bytes)?;
+    if bytes.len() > LONGEST {
         return Err(anyhow!(
             "the file of cases is longer than 67,108,864 bytes: cut it between two cases, and give each part alone"
         ));

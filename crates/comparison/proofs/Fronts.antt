@@ -96,7 +96,7 @@ within_run count bytes p e =
 within_certify : (bytes : List ℕ) (p : Call × List ℕ) → certify_of_numbers bytes ≡ Some p → length p.1 ≤ length bytes
 within_certify bytes p e =
     within_number bytes _ p
-    (λ r rest h. within_number rest _ p (λ i rest2 h2. within_number rest2 _ p (λ t rest3 h3. within_rest (certify (blank_buffers r i t)) rest3 p h3) h2) h) e
+    (λ ranks rest h. within_number rest _ p (λ instants others g. within_number others _ p (λ latenesses behind f. within_rest (certify (blank_buffers ranks instants latenesses)) behind p f) g) h) e
 
 -- behind a call on a docket there is less
 pub docket_shorter : (bytes : List ℕ) (p : Call × List ℕ) → front_docket_call bytes ≡ Some p → length p.1 < length bytes

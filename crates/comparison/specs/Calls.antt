@@ -8,7 +8,7 @@ use Rattle.frame.specs.Orders.{numbers_of}
 use Rattle.turns.specs.declared.calls.HolderCall.{HolderCall}
 use Rattle.turns.specs.declared.calls.HolderCall.TheVariants.{Clear, Count, Rank, At, Add, Take}
 use Rattle.calls.specs.Rules.{Buffers}
-use Rattle.docket.specs.InAgreement.{three}
+use Rattle.docket.specs.Buffers.{buffers_of}
 use Rattle.docket.specs.declared.slot.Slot.{Slot}
 use Rattle.docket.specs.Slots.{call_of}
 use Rattle.calls.specs.Calls.{Call, place, run, lift, certify}
@@ -35,10 +35,12 @@ call_of_tag tag bytes =
     cond (tag == 0) (Some (Clear, bytes))
     (cond (tag == 1) (Some (Count, bytes)) (with_number bytes (λ n rest. option_map (λ call. (call, rest)) (call_with_number tag n))))
 
+-- the call at the front of bytes, and what is behind it; none where no whole call stands there
 abbrev pub front_holder_call : List ℕ → Option (HolderCall × List ℕ)
 front_holder_call [] = None
 front_holder_call (tag ∷ bytes) = call_of_tag tag bytes
 
+-- the calls that bytes say, up to where no whole call stands
 abbrev pub holder_calls : List ℕ → List HolderCall
 holder_calls bytes = all_pieces front_holder_call bytes
 
@@ -46,7 +48,7 @@ holder_calls bytes = all_pieces front_holder_call bytes
 
 -- new buffers with so many entries, all bits set in each
 abbrev pub blank_buffers : ℕ → ℕ → ℕ → Buffers
-blank_buffers ranks instants latenesses = three (replicate ranks 65535) (replicate instants 18446744073709551615) (replicate latenesses 65535)
+blank_buffers ranks instants latenesses = buffers_of (replicate ranks 65535) (replicate instants 18446744073709551615) (replicate latenesses 65535)
 
 -- a run along so many numbers at the front of bytes, and what is behind it
 abbrev pub run_of_numbers : ℕ → List ℕ → Option (Call × List ℕ)
@@ -55,7 +57,7 @@ run_of_numbers count bytes = cond (nat_lt (length bytes) (2 * count)) None (Some
 -- a certify into buffers of as many entries as three numbers at the front of bytes say, and what is behind it
 abbrev pub certify_of_numbers : List ℕ → Option (Call × List ℕ)
 certify_of_numbers bytes =
-    with_number bytes (λ ranks rest. with_number rest (λ instants rest2. with_number rest2 (λ latenesses rest3. Some (certify (blank_buffers ranks instants latenesses), rest3))))
+    with_number bytes (λ ranks after_ranks. with_number after_ranks (λ instants after_instants. with_number after_instants (λ latenesses behind. Some (certify (blank_buffers ranks instants latenesses), behind))))
 
 -- the call of a tag, and what is behind it
 abbrev pub docket_call_of_tag : ℕ → List ℕ → Option (Call × List ℕ)
@@ -63,10 +65,12 @@ docket_call_of_tag tag bytes =
     cond (tag == 0) (with_number bytes (λ operation rest. Some (place operation, rest)))
     (cond (tag == 1) (with_number bytes run_of_numbers) (cond (tag == 2) (Some (lift, bytes)) (cond (tag == 3) (certify_of_numbers bytes) None)))
 
+-- the call at the front of bytes, and what is behind it; none where no whole call stands there
 abbrev pub front_docket_call : List ℕ → Option (Call × List ℕ)
 front_docket_call [] = None
 front_docket_call (tag ∷ bytes) = docket_call_of_tag tag bytes
 
+-- the calls that bytes say, up to where no whole call stands
 abbrev pub docket_calls : List ℕ → List Call
 docket_calls bytes = all_pieces front_docket_call bytes
 

@@ -136,5 +136,6 @@ case_told letter body =
     (cond (letter == 82) (reading_case body)
     (cond (letter == 87) (writing_case body) (cond (letter == 68) (docket_case body) (cond (letter == 72) (holder_case body) (cond (letter == 73) (item_case body) None)))))
 
+-- that answer, and else the line that it is no case
 abbrev pub case_answer : ℕ → List ℕ → List ℕ
 case_answer letter body = unwrap_or (case_told letter body) (codes "no case")

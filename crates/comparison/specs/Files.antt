@@ -16,5 +16,6 @@ abbrev pub front_case : List ℕ → Option (Case × List ℕ)
 front_case [] = None
 front_case (letter ∷ bytes) = cond (nat_lt (length bytes) 4) None (case_with_body letter (from_be_bytes w32 (take 4 bytes)) (drop 4 bytes))
 
+-- the cases that bytes hold, up to where no whole case stands
 abbrev pub cases_in : List ℕ → List Case
 cases_in bytes = all_pieces front_case bytes

@@ -4,6 +4,7 @@ use Rattle.std.specs.Int.{to_be_bytes, w16, w64}
 use Rattle.std.specs.List.{flat_map}
 use Rattle.calls.specs.Rules.{Buffers}
 
+-- the hash after one more byte
 abbrev pub hashed_byte : ℕ → ℕ → ℕ
 hashed_byte hash byte = bit_xor hash byte * 1099511628211 % 2 ^ 64
 

@@ -5,7 +5,7 @@ ghost use Rattle.std.specs.Option.{option_map};
 ghost use Rattle.frame.specs.Kinds.{kind_number};
 ghost use Rattle.frame.specs.Orders.{numbers_of};
 ghost use Rattle.calls.specs.Calls.{run, certify};
-ghost use Rattle.docket.specs.Lent.{owned};
+ghost use Rattle.docket.specs.Buffers.{owned};
 ghost use Rattle.docket.specs.Pairs.{paired_all, sheet_ops};
 ghost use Rattle.docket.specs.Slots.{call_of, reply_of};
 ghost use Rattle.examination.specs.Kinds.{seat_of};

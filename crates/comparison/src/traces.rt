@@ -14,13 +14,13 @@ ghost use Rattle.comparison.specs.Words.{last_line, words_of_text, words_of_said
 
 use crate::hash::{OF_NOTHING, hash_on};
 use crate::numbers::cut;
-use examination::examining::{blank_records, has_stamps};
+use examination::examining::has_stamps;
 use frame::order::Order;
 use item::item::Item;
 use record::bytes::number_at;
 use record::encoding::encode;
 use refusal::Refusal;
-use report::report::{ReportFault, report_trace};
+use report::report::{ReportFault, blank_records, report_trace};
 use sheet::sheet::Sheet;
 use std::alloc::{AllocError, Global};
 use trace::fault::{ReadFault, WriteFault};

@@ -3,7 +3,7 @@ use Rattle.std.proofs.Common.{◌≡◌, ℕ, ◌+◌, ◌<◌, min, Option, Som
 use Rattle.std.proofs.lemmas.List.{append-nil, take_at, take_more, nil_from_length}
 use Rattle.holder.specs.Answers.{front_over}
 use Rattle.holder.proofs.Fronts.{front_all}
-use Rattle.counting.specs.Blocks.{upto}
+use Rattle.counting.specs.Blocks.{used_upto}
 use Rattle.counting.specs.Slots.{codes}
 use Rattle.counting.specs.Codes.{codes_append, codes_used, codes_free, codes_empty, length_codes}
 
@@ -26,7 +26,7 @@ codes_same s i h u =
     ∙ ap (λ (l : List ℕ). codes (take i s) ++ l) (codes_free [] ∙ codes_empty) ∙ append-nil (codes (take i s))
 
 -- no slot is used before i
-pub codes_from : (s : List (Option ℕ)) (i : ℕ) → upto s i ≡ 0 → codes (drop i s) ≡ codes s
+pub codes_from : (s : List (Option ℕ)) (i : ℕ) → used_upto s i ≡ 0 → codes (drop i s) ≡ codes s
 codes_from s i z = sym (codes_split s i ∙ ap (λ (l : List ℕ). l ++ codes (drop i s)) (nil_from_length (codes (take i s)) (length_codes s i ∙ z)))
 
 -- the codes of the first slots are as many as the buffer takes

@@ -6,15 +6,15 @@ use Rattle.giving.specs.Lists.{place}
 use Rattle.giving.proofs.Places.{place_absent}
 use Rattle.counting.specs.declared.queue.CountingQueue.{CountingQueue}
 use Rattle.counting.specs.declared.slot.Slot.{Slot}
-use Rattle.counting.specs.Blocks.{upto}
+use Rattle.counting.specs.Blocks.{used_upto}
 use Rattle.counting.specs.Slots.{codes, number_of}
 use Rattle.counting.specs.Codes.{codes_absent, code_place, code_at}
 
 -- code c stands in slot i, at the place that counts the used slots before it
 pub record HeldAt (q : CountingQueue) (c i : ℕ) : Type 0 where
   pub slot : get_or q.arrivals.slots i None ≡ Some c
-  pub here : place c (codes q.arrivals.slots) ≡ upto q.arrivals.slots i
-  pub held : upto q.arrivals.slots i < length (codes q.arrivals.slots)
+  pub here : place c (codes q.arrivals.slots) ≡ used_upto q.arrivals.slots i
+  pub held : used_upto q.arrivals.slots i < length (codes q.arrivals.slots)
 
 pub held_at : (q : CountingQueue) (c : ℕ) (slot : Slot) → get_or q.positions c None ≡ Some slot → HeldAt q c slot.number
 held_at q c slot e =
@@ -24,7 +24,7 @@ held_at q c slot e =
     record { slot = b; here = code_place s q.positions c slot.number q.placed b; held = a.0 }
 
 -- the same in numbers alone, as a check can use it by itself
-pub place_held : (q : CountingQueue) (c : ℕ) (slot : Slot) → get_or q.positions c None ≡ Some slot → (place c (codes q.arrivals.slots) ≡ upto q.arrivals.slots slot.number) × (upto q.arrivals.slots slot.number < length (codes q.arrivals.slots))
+pub place_held : (q : CountingQueue) (c : ℕ) (slot : Slot) → get_or q.positions c None ≡ Some slot → (place c (codes q.arrivals.slots) ≡ used_upto q.arrivals.slots slot.number) × (used_upto q.arrivals.slots slot.number < length (codes q.arrivals.slots))
 place_held q c slot e = let h = held_at q c slot e in (h.here, h.held)
 
 -- a code that has a position is held, and one that has none is not

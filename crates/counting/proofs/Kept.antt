@@ -3,7 +3,7 @@ use Rattle.std.proofs.Common.{◌≡◌, ℕ, zero, suc, ◌+◌, ◌<◌, ◌�
 use Rattle.std.proofs.lemmas.List.{get_or-set_same, get_or-set_other}
 use Rattle.std.proofs.lemmas.Bool.{cases_eq}
 use Rattle.counting.specs.declared.slot.Slot.{Slot}
-use Rattle.counting.specs.Slots.{number_of, slot_of, FreeFrom, HasPosition, Back}
+use Rattle.counting.specs.Slots.{number_of, slot_of, FreeFrom, HasPosition, StandsAtPosition}
 
 -- what a list has at place k after x was written at place i
 abbrev Written : {A : Type 0} → List (Option A) → ℕ → Option A → ℕ → Type 0
@@ -16,7 +16,7 @@ written {A} xs i x k h =
     (λ (ne : k ≢ i). inr (ne, get_or-set_other xs i k x None ne))
     (cases_eq k i)
 
-module _ (s : List (Option ℕ)) (ps : List (Option Slot)) (slot : Slot) (c : ℕ) (in' : slot.number < length s) (cin : c < length ps) (cs : c < 1024) (l : FreeFrom slot.number s) (t : HasPosition s ps) (b : Back s ps) (z : get_or ps c None ≡ None) where
+module _ (s : List (Option ℕ)) (ps : List (Option Slot)) (slot : Slot) (c : ℕ) (in' : slot.number < length s) (cin : c < length ps) (cs : c < 1024) (l : FreeFrom slot.number s) (t : HasPosition s ps) (b : StandsAtPosition s ps) (z : get_or ps c None ≡ None) where
   free_add : FreeFrom (slot.number + 1) (set s slot.number (Some c))
   free_add k h = let ne : k ≢ slot.number = omega arith in rw get_or-set_other (l k (omega arith))
 
@@ -33,7 +33,7 @@ module _ (s : List (Option ℕ)) (ps : List (Option Slot)) (slot : Slot) (c : �
       (f.0, ap number_of (get_or-set_other ps c d (Some slot) None ne) ∙ f.1))
       (written s slot.number (Some c) k in')
 
-  back_add : Back (set s slot.number (Some c)) (set ps c (Some slot))
+  back_add : StandsAtPosition (set s slot.number (Some c)) (set ps c (Some slot))
   back_add d k u =
       ⊎_elim
       (λ (e : (d ≡ c) × (get_or (set ps c (Some slot)) d None ≡ Some slot)).
@@ -47,10 +47,10 @@ module _ (s : List (Option ℕ)) (ps : List (Option Slot)) (slot : Slot) (c : �
       get_or-set_other s slot.number k (Some c) None ne ∙ f)
       (written ps c (Some slot) d cin)
 
-  pub kept_add : (new : List (Option ℕ)) → new ≡ set s slot.number (Some c) → FreeFrom (slot.number + 1) new × HasPosition new (set ps c (Some slot)) × Back new (set ps c (Some slot))
-  kept_add new e = subst (λ l. FreeFrom (slot.number + 1) l × HasPosition l (set ps c (Some slot)) × Back l (set ps c (Some slot))) (sym e) (free_add, placed_add, back_add)
+  pub kept_add : (new : List (Option ℕ)) → new ≡ set s slot.number (Some c) → FreeFrom (slot.number + 1) new × HasPosition new (set ps c (Some slot)) × StandsAtPosition new (set ps c (Some slot))
+  kept_add new e = subst (λ l. FreeFrom (slot.number + 1) l × HasPosition l (set ps c (Some slot)) × StandsAtPosition l (set ps c (Some slot))) (sym e) (free_add, placed_add, back_add)
 
-module _ (s : List (Option ℕ)) (ps : List (Option Slot)) (n : ℕ) (slot : Slot) (c : ℕ) (in' : slot.number < length s) (cin : c < length ps) (l : FreeFrom n s) (t : HasPosition s ps) (b : Back s ps) (p : get_or ps c None ≡ Some slot) (q : get_or s slot.number None ≡ Some c) where
+module _ (s : List (Option ℕ)) (ps : List (Option Slot)) (n : ℕ) (slot : Slot) (c : ℕ) (in' : slot.number < length s) (cin : c < length ps) (l : FreeFrom n s) (t : HasPosition s ps) (b : StandsAtPosition s ps) (p : get_or ps c None ≡ Some slot) (q : get_or s slot.number None ≡ Some c) where
   free_take : FreeFrom n (set s slot.number None)
   free_take k h =
       ⊎_elim
@@ -69,7 +69,7 @@ module _ (s : List (Option ℕ)) (ps : List (Option Slot)) (n : ℕ) (slot : Slo
       (f.0, ap number_of (get_or-set_other ps c d None None ne) ∙ f.1))
       (written s slot.number None k in')
 
-  back_take : Back (set s slot.number None) (set ps c None)
+  back_take : StandsAtPosition (set s slot.number None) (set ps c None)
   back_take d k u =
       ⊎_elim
       (λ (e : (d ≡ c) × (get_or (set ps c None) d None ≡ None)). let gone = ap number_of e.1 in absurd cc)
@@ -79,8 +79,8 @@ module _ (s : List (Option ℕ)) (ps : List (Option Slot)) (n : ℕ) (slot : Slo
       get_or-set_other s slot.number k None None ne ∙ f)
       (written ps c None d cin)
 
-  pub kept_take : (new : List (Option ℕ)) → new ≡ set s slot.number None → FreeFrom n new × HasPosition new (set ps c None) × Back new (set ps c None)
-  kept_take new e = subst (λ l. FreeFrom n l × HasPosition l (set ps c None) × Back l (set ps c None)) (sym e) (free_take, placed_take, back_take)
+  pub kept_take : (new : List (Option ℕ)) → new ≡ set s slot.number None → FreeFrom n new × HasPosition new (set ps c None) × StandsAtPosition new (set ps c None)
+  kept_take new e = subst (λ l. FreeFrom n l × HasPosition l (set ps c None) × StandsAtPosition l (set ps c None)) (sym e) (free_take, placed_take, back_take)
 
 -- ---- nothing held
 blank : {A : Type 0} (n k : ℕ) → get_or {A = Option A} (replicate n None) k None ≡ None
@@ -94,5 +94,5 @@ free_clear s e k = ap (λ (l : List (Option ℕ)). get_or l k None) e ∙ blank 
 pub placed_clear : (s : List (Option ℕ)) (ps : List (Option Slot)) → s ≡ replicate 1024 None → HasPosition s ps
 placed_clear s ps e k c u = let z = free_clear s e k in absurd cc
 
-pub back_clear : (s : List (Option ℕ)) → Back s (replicate 1024 None)
+pub back_clear : (s : List (Option ℕ)) → StandsAtPosition s (replicate 1024 None)
 back_clear s c k u = let z = ap number_of (blank {A = Slot} 1024 c) in absurd cc

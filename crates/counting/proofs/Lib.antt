@@ -1,4 +1,4 @@
-pub mod Chains
+pub mod BlocksWithPosition
 pub mod Kept
 pub mod Held
 pub mod Fronts

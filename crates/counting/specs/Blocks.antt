@@ -19,17 +19,17 @@ abbrev pub worth : Option ℕ → ℕ
 worth slot = cond (used slot) 1 0
 
 -- how many of the positions 1 to n are used
-unfoldable pub upto : List (Option ℕ) → ℕ → ℕ
-upto slots n = count_by used (take n slots)
+unfoldable pub used_upto : List (Option ℕ) → ℕ → ℕ
+used_upto slots n = count_by used (take n slots)
 
 -- the sum at each position p is how many positions of its block are used: with those before the block, it makes those up to p
 abbrev pub BlockSums : List ℕ → List (Option ℕ) → Type 0
-BlockSums sums slots = (p : ℕ) → 0 < p → p ≤ 1024 → slice_index sums p + upto slots (p - block p) ≡ upto slots p
+BlockSums sums slots = (p : ℕ) → 0 < p → p ≤ 1024 → slice_index sums p + used_upto slots (p - block p) ≡ used_upto slots p
 
 -- what position q adds to a count of the positions 1 to n, if it counts for w
-abbrev pub from : ℕ → ℕ → ℕ → ℕ
-from q w n = cond (nat_le q n) w 0
+abbrev pub counted_from : ℕ → ℕ → ℕ → ℕ
+counted_from q w n = cond (nat_le q n) w 0
 
 -- each sum of a block that has position q lost `less` and gained `more`, and the other sums stayed
 abbrev pub Changed : ℕ → ℕ → ℕ → List ℕ → List ℕ → Type 0
-Changed q less more old new = (p : ℕ) → 0 < p → p ≤ 1024 → slice_index new p + (from q less p + from q more (p - block p)) ≡ slice_index old p + (from q more p + from q less (p - block p))
+Changed q less more old new = (p : ℕ) → 0 < p → p ≤ 1024 → slice_index new p + (counted_from q less p + counted_from q more (p - block p)) ≡ slice_index old p + (counted_from q more p + counted_from q less (p - block p))

@@ -13,10 +13,11 @@ use Rattle.giving.specs.Lists.{times, place, without, Once, Below}
 use Rattle.giving.proofs.Counts.{times_none, once_more}
 use Rattle.giving.proofs.Places.{place_only, removed_without}
 use Rattle.counting.specs.declared.slot.Slot.{Slot}
-use Rattle.counting.specs.Blocks.{used, worth, upto}
+use Rattle.counting.specs.Blocks.{used, worth, used_upto}
 use Rattle.counting.specs.Slots.{codes, slot_of, FreeFrom, HasPosition}
-use Rattle.counting.specs.Sums.{upto_le}
+use Rattle.counting.specs.Sums.{used_upto_le}
 
+-- ---- lists of slots: two of them, one more slot that is used or not, and none
 pub codes_append : (xs ys : List (Option ℕ)) → codes (xs ++ ys) ≡ codes xs ++ codes ys
 unfolding codes
 codes_append xs ys = filter_map-append (λ slot. slot) xs ys
@@ -40,11 +41,13 @@ length_used [] = refl
 length_used (None ∷ xs) = length_used xs
 length_used (Some c ∷ xs) = ap suc (length_used xs) ∙ sym (sum_by-cons worth (Some c) xs ∙ one-add (count_by used xs))
 
-pub length_codes : (s : List (Option ℕ)) (n : ℕ) → length (codes (take n s)) ≡ upto s n
-unfolding upto
+-- of the first slots
+pub length_codes : (s : List (Option ℕ)) (n : ℕ) → length (codes (take n s)) ≡ used_upto s n
+unfolding used_upto
 length_codes s n = length_used (take n s)
 
-pub length_all : (s : List (Option ℕ)) (n : ℕ) → length s ≤ n → length (codes s) ≡ upto s n
+-- of all of them
+pub length_all : (s : List (Option ℕ)) (n : ℕ) → length s ≤ n → length (codes s) ≡ used_upto s n
 length_all s n h = ap (λ (l : List (Option ℕ)). length (codes l)) (sym (take_all n s h)) ∙ length_codes s n
 
 codes_at : (s : List (Option ℕ)) (i c : ℕ) → i < length s → slice_index_or s i None ≡ Some c → codes s ≡ codes (take i s) ++ c ∷ codes (drop (suc i) s)
@@ -55,6 +58,7 @@ codes_at s i c h u =
 codes_set : (s : List (Option ℕ)) (i : ℕ) (v : Option ℕ) → i < length s → codes (slice_set s i v) ≡ codes (take i s) ++ codes (v ∷ drop (suc i) s)
 codes_set s i v h = ap codes (set_split s i v h) ∙ codes_append (take i s) (v ∷ drop (suc i) s)
 
+-- where no slot is used there is no code
 pub codes_none : (xs : List (Option ℕ)) → ((k : ℕ) → slice_index_or xs k None ≡ None) → codes xs ≡ []
 codes_none [] f = codes_empty
 codes_none (x ∷ xs) f = ap (λ (o : Option ℕ). codes (o ∷ xs)) (f 0) ∙ codes_free xs ∙ codes_none xs (λ k. f (suc k))
@@ -95,6 +99,7 @@ once_single (Some c ∷ xs) o a =
     let z = times_nowhere xs c (λ h. o 0 (suc h.0) c (omega arith) refl h.1) in
     omega (arith, once_more a c (codes xs) z r)
 
+-- by the positions no code stands twice, and each is below 1,024
 pub codes_once : (s : List (Option ℕ)) (ps : List (Option Slot)) → HasPosition s ps → Once (codes s)
 codes_once s ps t = once_single s (λ i j c ij u v. let a = t i c u in let b = t j c v in let e : Some i ≡ Some j = sym a.1 ∙ b.1 in let n : i ≡ j = cc in omega arith)
 
@@ -105,27 +110,31 @@ codes_below s ps t a l = times_nowhere s a (λ h. let b = t h.0 a h.1 in omega a
 pub codes_absent : (s : List (Option ℕ)) (ps : List (Option Slot)) (c : ℕ) → HasPosition s ps → slot_of ps c ≡ None → times c (codes s) ≡ 0
 codes_absent s ps c t z = times_nowhere s c (λ h. let e = (t h.0 c h.1).1 in cc)
 
+-- a slot in which something stands is there: its number is below how many there are
 pub within : {A : Type 0} (s : List (Option A)) (i : ℕ) (c : A) → slice_index_or s i None ≡ Some c → i < length s
 within s i c u = ⊎_elim (λ (h : i < length s). h) (λ (h : length s ≤ i). let e = get_or_past s i None h in absurd cc) (cases_lt i (length s))
 
 -- the code of a used slot stands at the count before the slot
-pub code_at : (s : List (Option ℕ)) (i c : ℕ) → slice_index_or s i None ≡ Some c → (upto s i < length (codes s)) × (slice_index (codes s) (upto s i) ≡ c)
+pub code_at : (s : List (Option ℕ)) (i c : ℕ) → slice_index_or s i None ≡ Some c → (used_upto s i < length (codes s)) × (slice_index (codes s) (used_upto s i) ≡ c)
 code_at s i c u =
     let e = codes_at s i c (within s i c u) u in
     let n = length_codes s i in
     let l = ap length e ∙ length-append (codes (take i s)) (c ∷ codes (drop (suc i) s)) in
-    (omega arith, ap (λ (l : List ℕ). slice_index l (upto s i)) e ∙ get_or_at (codes (take i s)) c (codes (drop (suc i) s)) 0 (upto s i) n)
+    (omega arith, ap (λ (l : List ℕ). slice_index l (used_upto s i)) e ∙ get_or_at (codes (take i s)) c (codes (drop (suc i) s)) 0 (used_upto s i) n)
 
-coded : (s : List (Option ℕ)) (i : ℕ) (slot : Option ℕ) → slice_index_or s i None ≡ slot → IsSome slot → (upto s i < length (codes s)) × (slice_index_or s i None ≡ Some (slice_index (codes s) (upto s i)))
+coded : (s : List (Option ℕ)) (i : ℕ) (slot : Option ℕ) → slice_index_or s i None ≡ slot → IsSome slot → (used_upto s i < length (codes s)) × (slice_index_or s i None ≡ Some (slice_index (codes s) (used_upto s i)))
 coded s i None e u = absurd cc
 coded s i (Some c) e u = let a = code_at s i c e in (a.0, e ∙ ap Some (sym a.1))
 
-pub code_in : (s : List (Option ℕ)) (i : ℕ) → IsSome (slice_index_or s i None) → (upto s i < length (codes s)) × (slice_index_or s i None ≡ Some (slice_index (codes s) (upto s i)))
+-- the same of a used slot, whatever its code
+pub code_in : (s : List (Option ℕ)) (i : ℕ) → IsSome (slice_index_or s i None) → (used_upto s i < length (codes s)) × (slice_index_or s i None ≡ Some (slice_index (codes s) (used_upto s i)))
 code_in s i u = coded s i (slice_index_or s i None) refl u
 
-pub code_place : (s : List (Option ℕ)) (ps : List (Option Slot)) (c i : ℕ) → HasPosition s ps → slice_index_or s i None ≡ Some c → place c (codes s) ≡ upto s i
-code_place s ps c i t e = let a = code_at s i c e in place_only c (upto s i) (codes s) (codes_once s ps t) a.0 a.1
+-- the place of a code is how many slots before its own are used
+pub code_place : (s : List (Option ℕ)) (ps : List (Option Slot)) (c i : ℕ) → HasPosition s ps → slice_index_or s i None ≡ Some c → place c (codes s) ≡ used_upto s i
+code_place s ps c i t e = let a = code_at s i c e in place_only c (used_upto s i) (codes s) (codes_once s ps t) a.0 a.1
 
+-- with its slot emptied, a code has left, and the others are as before
 pub codes_without : (s : List (Option ℕ)) (ps : List (Option Slot)) (c i : ℕ) → HasPosition s ps → slice_index_or s i None ≡ Some c → codes (slice_set s i None) ≡ without c (codes s)
 codes_without s ps c i t e =
     let h = within s i c e in
@@ -143,6 +152,7 @@ codes_before s n l =
     let rest : codes (drop n s) ≡ [] = codes_none (drop n s) (λ k. get_or-drop n s k None ∙ l (n + k) (omega arith)) in
     ap codes (sym (take-append-drop n s)) ∙ codes_append (take n s) (drop n s) ∙ ap (λ (l : List ℕ). codes (take n s) ++ l) rest ∙ append-nil (codes (take n s))
 
+-- a code that is put behind the used slots comes last
 pub codes_pushed : (s : List (Option ℕ)) (n c : ℕ) → n < length s → FreeFrom n s → codes (slice_set s n (Some c)) ≡ codes s ++ c ∷ []
 codes_pushed s n c h l =
     let A : List ℕ = codes (take n s) in
@@ -152,4 +162,4 @@ codes_pushed s n c h l =
 
 -- no more codes than adds
 pub codes_few : (s : List (Option ℕ)) (n : ℕ) → FreeFrom n s → length (codes s) ≤ n
-codes_few s n l = let e = ap length (codes_before s n l) ∙ length_codes s n in omega (arith, upto_le s n)
+codes_few s n l = let e = ap length (codes_before s n l) ∙ length_codes s n in omega (arith, used_upto_le s n)

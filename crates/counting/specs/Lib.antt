@@ -2,4 +2,4 @@ pub mod Blocks
 pub mod Slots
 pub mod Codes
 pub mod Sums
-pub mod Lows
+pub mod LowestBit

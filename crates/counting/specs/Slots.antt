@@ -25,5 +25,5 @@ abbrev pub HasPosition : List (Option ℕ) → List (Option Slot) → Type 0
 HasPosition slots positions = (k c : ℕ) → slice_index_or slots k None ≡ Some c → (c < 1024) × (slot_of positions c ≡ Some k)
 
 -- each code that has a position stands in the slot of that position
-abbrev pub Back : List (Option ℕ) → List (Option Slot) → Type 0
-Back slots positions = (c k : ℕ) → slot_of positions c ≡ Some k → slice_index_or slots k None ≡ Some c
+abbrev pub StandsAtPosition : List (Option ℕ) → List (Option Slot) → Type 0
+StandsAtPosition slots positions = (c k : ℕ) → slot_of positions c ≡ Some k → slice_index_or slots k None ≡ Some c

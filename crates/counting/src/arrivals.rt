@@ -2,7 +2,7 @@
 // code.
 ghost use Rattle.std.specs.Prelude.{◌≡◌, ◌<◌, ◌≤◌, min, IsSome, length, replicate, slice_index_or, slice_set};
 ghost use Rattle.holder.specs.Answers.{front_over};
-ghost use Rattle.counting.specs.Blocks.{upto, BlockSums};
+ghost use Rattle.counting.specs.Blocks.{used_upto, BlockSums};
 ghost use Rattle.counting.specs.Slots.{codes};
 
 use crate::blocks::{Change, block_len};
@@ -70,7 +70,7 @@ impl Arrivals {
     // How many of the first n slots are used: from block to block, down to the first.
     pub(crate) fn used_before(&self, n: u16) -> u16
         requires { n ≤ 1024 }
-        ensures { result ≡ upto self.now.slots n }
+        ensures { result ≡ used_upto self.now.slots n }
     {
         let mut sum: u16 = 0;
         let mut at = n;
@@ -84,8 +84,8 @@ impl Arrivals {
 
     // The used slot that has `rank` used slots before it: each turn halves the blocks that are left to look at.
     pub(crate) fn select(&self, rank: u16) -> Slot
-        requires { rank < upto self.now.slots 1024 }
-        ensures before { upto self.now.slots result.number ≡ rank }
+        requires { rank < used_upto self.now.slots 1024 }
+        ensures before { used_upto self.now.slots result.number ≡ rank }
         ensures held { IsSome (slice_index_or self.now.slots result.number None) }
     {
         let mut at: u16 = 0;

@@ -1,12 +1,12 @@
 // Blocks of arrival positions 1 to 1,024: one ends at each position.
 ghost use Rattle.std.specs.Prelude.{◌≡◌, ℕ, ◌+◌, ◌-◌, ◌<◌, ◌≤◌, length, slice_index};
-ghost use Rattle.counting.specs.Blocks.{block, worth, from, Changed};
+ghost use Rattle.counting.specs.Blocks.{block, worth, counted_from, Changed};
 
 use crate::slot::Slot;
 use holder::holder::ADD_BOUND;
 
 // How long the block is that ends at a position: the lowest one bit of the position's number.
-#[tactic(auto, using(crate::specs::Lows::block_le), unfolding(crate::specs::Blocks::block))]
+#[tactic(auto, using(crate::specs::LowestBit::block_le), unfolding(crate::specs::Blocks::block))]
 pub(crate) fn block_len(position: u16) -> u16
     requires { 0 < position }
     ensures value { result ≡ block position }
@@ -35,7 +35,7 @@ impl Change {
     // Brings the sum of each block that has the slot's position up to date.
     pub(crate) fn apply(&self, sums: &mut [u16; 1025])
         requires room { (p : ℕ) → 0 < p → p ≤ 1024 → slice_index sums.old p ≤ 1024 }
-        requires enough { (p : ℕ) → 0 < p → p ≤ 1024 → from (self.now.slot.number + 1) (worth self.now.before) p ≤ slice_index sums.old p + from (self.now.slot.number + 1) (worth self.now.before) (p - block p) }
+        requires enough { (p : ℕ) → 0 < p → p ≤ 1024 → counted_from (self.now.slot.number + 1) (worth self.now.before) p ≤ slice_index sums.old p + counted_from (self.now.slot.number + 1) (worth self.now.before) (p - block p) }
         ensures long { length sums.new ≡ 1025 }
         ensures changed { Changed (self.now.slot.number + 1) (worth self.now.before) (worth self.now.after) sums.old sums.new }
     {

@@ -1,7 +1,7 @@
 // The queue by counting.
 ghost use Rattle.std.specs.Prelude.{◌≡◌, ◌≤◌, [], length, slice_index_or};
 ghost use Rattle.holder.specs.Kinds.{queue_seat};
-ghost use Rattle.counting.specs.Slots.{codes, FreeFrom, HasPosition, Back};
+ghost use Rattle.counting.specs.Slots.{codes, FreeFrom, HasPosition, StandsAtPosition};
 ghost use Rattle.counting.specs.Codes.{codes_once, codes_below, codes_few};
 ghost use Rattle.std.proofs.Common.{rules};
 
@@ -20,7 +20,7 @@ pub struct CountingQueue {
     ghost few: { added ≤ 1024 },
     ghost free: { FreeFrom added arrivals.slots },
     ghost placed: { HasPosition arrivals.slots positions },
-    ghost back: { Back arrivals.slots positions },
+    ghost back: { StandsAtPosition arrivals.slots positions },
 }
 
 impl CountingQueue {

@@ -5,9 +5,9 @@ use Rattle.std.proofs.lemmas.Bool.{cases_eq, cases_Bool, le-ltb, cond-false}
 use Rattle.calls.specs.Rules.{lowest}
 use Rattle.docket.specs.declared.entry.Entry.{Entry}
 use Rattle.docket.specs.declared.ledger.Ledger.{Ledger}
-use Rattle.docket.specs.Kept.{blank, entry_of, end_at, Lesser, awaited_end, Awaits}
+use Rattle.docket.specs.Kept.{entry_of, end_at, Lesser, awaited_end, Awaits}
 use Rattle.docket.specs.Moves.{waits, with_late, with_flag, changed_at, changed_all}
-use Rattle.docket.proofs.Table.{keeps_all}
+use Rattle.docket.proofs.Table.{keeps_all, changed_here, changed_there}
 
 -- ---- the tree
 -- what stands at the place q is the lesser of the two below it
@@ -79,9 +79,8 @@ pub awaits_flag : (b : Bool) (ts us : List ℕ) (n x : ℕ) (es : List Entry) �
 awaits_flag b ts us n x es long own others was = λ y h.
     ⊎_elim
     (λ (e : y ≡ x).
-    ap (end_at us) e ∙ own ∙ ap awaited_end (sym (get_or-set_same es x (with_flag b (entry_of es x)) blank long))
-    ∙ ap (λ (v : ℕ). awaited_end (entry_of (changed_at (with_flag b) es x) v)) (sym e))
-    (λ (e : y ≡ x → ⊥). others y e ∙ was y h ∙ ap awaited_end (sym (get_or-set_other es x y (with_flag b (entry_of es x)) blank e)))
+    ap (end_at us) e ∙ own ∙ ap (λ (v : ℕ). awaited_end (with_flag b (entry_of es v))) (sym e) ∙ sym (changed_here awaited_end (with_flag b) es x y e (omega arith)))
+    (λ (e : y ≡ x → ⊥). others y e ∙ was y h ∙ sym (changed_there awaited_end (with_flag b) es x y e))
     (cases_eq y x)
 
 -- changed latenesses leave them

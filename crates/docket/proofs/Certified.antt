@@ -6,7 +6,7 @@ use Rattle.std.proofs.lemmas.Bool.{cond-true, cond-false}
 use Rattle.calls.specs.declared.certificate.Certificate.{Certificate}
 use Rattle.order.specs.Times.{earliest}
 use Rattle.giving.specs.Lists.{SeatRule, times}
-use Rattle.order.specs.Steps.{rank_errors, lateness}
+use Rattle.order.specs.Steps.{lateness}
 use Rattle.calls.specs.declared.fault.DocketFault.{DocketFault}
 use Rattle.calls.specs.declared.fault.DocketFault.TheVariants.{StepsMissing, BufferTooShort}
 use Rattle.giving.specs.Fronts.{over}
@@ -14,9 +14,11 @@ use Rattle.calls.specs.Rules.{missing, unless_missing, is_too_short, certify_ans
 use Rattle.docket.specs.declared.entry.Entry.{Entry}
 use Rattle.docket.specs.declared.ledger.Ledger.{Ledger}
 use Rattle.docket.specs.Kept.{blank}
-use Rattle.docket.specs.InAgreement.{ops_of, steps_of, InAgreement, three, lates_of, errors_of}
+use Rattle.docket.specs.InAgreement.{ops_of, steps_of, InAgreement, lates_of, errors_of}
+use Rattle.docket.specs.Buffers.{buffers_of}
 use Rattle.docket.specs.Moves.{not_placed}
 use Rattle.docket.proofs.PlacedSteps.{lowest_ext}
+use Rattle.docket.proofs.Fronts.{same_buffers}
 use Rattle.docket.proofs.Placing.{long_steps, long_ops, not_not}
 
 module _ (seat : SeatRule) (l : Ledger) where
@@ -55,8 +57,5 @@ module _ (seat : SeatRule) (l : Ledger) where
   cert_ok b c L n e s is i = ap Ok (is ∙ ap summed_up i.errors) ∙ sym (cond-false _ _ _ (short_is b false s)) ∙ chosen_is b None e
 
   pub cert_written : (r i t r' i' t' : List ℕ) (c : Certificate) (L : List ℕ) (n : ℕ)
-      → r' ≡ over (errors_of l) r → i' ≡ over (earliest (ops_of l) (steps_of l)) i → t' ≡ over (lates_of l) t → InAgreement seat L n l → three r' i' t' ≡ written seat (ops_of l) (steps_of l) (three r i t) (Ok c)
-  cert_written r i t r' i' t' c L n re ie te s =
-      ap (λ (v : List ℕ). three v i' t') (re ∙ ap (λ (v : List ℕ). over v r) s.errors)
-      ∙ ap (λ (v : List ℕ). three (over (rank_errors seat (ops_of l) (steps_of l)) r) v t') ie
-      ∙ ap (λ (v : List ℕ). three (over (rank_errors seat (ops_of l) (steps_of l)) r) (over (earliest (ops_of l) (steps_of l)) i) v) (te ∙ ap (λ (v : List ℕ). over v t) (lates_same L n s))
+      → r' ≡ over (errors_of l) r → i' ≡ over (earliest (ops_of l) (steps_of l)) i → t' ≡ over (lates_of l) t → InAgreement seat L n l → buffers_of r' i' t' ≡ written seat (ops_of l) (steps_of l) (buffers_of r i t) (Ok c)
+  cert_written r i t r' i' t' c L n re ie te s = same_buffers (re ∙ ap (λ (v : List ℕ). over v r) s.errors) ie (te ∙ ap (λ (v : List ℕ). over v t) (lates_same L n s))

@@ -1,16 +1,40 @@
 -- A table that was filled entry by entry, before any step. Assumes nothing.
-use Rattle.std.proofs.Common.{◌≡◌, ℕ, ◌<◌, ◌≤◌, false, List, map, length, get_or, take, refl, ap, ◌∙◌, ⊎_elim, arith}
-use Rattle.std.proofs.lemmas.List.{get_or_past, ext_get_or}
-use Rattle.std.proofs.lemmas.Bool.{cases_lt}
+use Rattle.std.proofs.Common.{◌≡◌, ℕ, ◌<◌, ◌≤◌, true, false, ltb, List, map, length, get_or, take, Some, sym, refl, ap, ◌∙◌, ⊎_elim, arith}
+use Rattle.std.proofs.lemmas.List.{get_or_past, get_or-map, length-map, ext_get_or}
+use Rattle.std.proofs.lemmas.Bool.{cases_lt, ltb-true, ltb-false}
+use Rattle.std.proofs.lemmas.Option.{slice_get_read}
+use Rattle.std.specs.List.{slice_get}
 use Rattle.std.specs.Fn.{Mut, Called}
 use Rattle.std.specs.Array.{IsFromFnResult}
+use Rattle.sheet.specs.declared.operation.Operation.{Operation}
 use Rattle.order.specs.declared.operation.Paired.{Paired}
 use Rattle.docket.specs.declared.entry.Entry.{Entry}
 use Rattle.order.specs.Steps.{nothing}
 use Rattle.docket.specs.Kept.{fresh, blank, entry_of}
+use Rattle.docket.specs.Pairs.{paired_of, paired_all}
 use Rattle.docket.specs.InAgreement.{paired_in}
 use Rattle.docket.proofs.Made.{made}
 use Rattle.docket.proofs.Table.{op_at, length_ops}
+
+-- what a look-up among the operations of a sheet found, and that operation as it is paired
+module _ {I : Type 0} (number : I → ℕ) (all os : List (Operation I)) (k : ℕ) (same : all ≡ os) where
+  module _ (o : Operation I) (h : true ≡ ltb k (length all)) (is : o ≡ get_or all k o) where
+    within : k < length os
+    within = omega (arith, ltb-true k (length all) (sym h), ap (length {A = Operation I}) same)
+
+    here : o ≡ get_or os k o
+    here = is ∙ ap (λ (v : List (Operation I)). get_or v k o) same
+
+    pub found_at : slice_get os k ≡ Some o
+    found_at = slice_get_read os (length os) k o refl within here
+
+    pub paired_at : get_or (paired_all number os) k nothing ≡ paired_of number os o
+    paired_at = get_or-map (paired_of number os) os k o nothing within ∙ ap (paired_of number os) (sym here)
+
+  pub paired_past : false ≡ ltb k (length all) → get_or (paired_all number os) k nothing ≡ nothing
+  paired_past h =
+      get_or_past (paired_all number os) k nothing
+      (omega (arith, ltb-false k (length all) (sym h), ap (length {A = Operation I}) same, length-map os (paired_of number os)))
 
 -- the entry of number x, where ps are the operations
 abbrev pub entry_before : List Paired → ℕ → Entry

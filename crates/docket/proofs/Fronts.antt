@@ -6,6 +6,7 @@ use Rattle.giving.specs.Lists.{Below}
 use Rattle.giving.proofs.Counts.{times_take, below_fewer}
 use Rattle.giving.proofs.Fronts.{front_push}
 use Rattle.holder.specs.Answers.{front_over}
+use Rattle.docket.specs.Buffers.{buffers_of}
 use Rattle.holder.proofs.Fronts.{front_all}
 
 -- as many entries as it says that it wrote are the first codes, as many as the buffer has entries for
@@ -17,6 +18,10 @@ front_read L buffer now n e was =
 
 pub below_take : (n k : ℕ) (L : List ℕ) → Below n L → Below n (take k L)
 below_take n k L b = below_fewer n L (take k L) (λ a. times_take a k L) b
+
+-- three buffers hold the same where each does
+pub same_buffers : {r s i j t u : List ℕ} → r ≡ s → i ≡ j → t ≡ u → buffers_of r i t ≡ buffers_of s j u
+same_buffers {r} {s} {i} {j} {t} {u} a b c = ap (λ (v : List ℕ). buffers_of v i t) a ∙ ap (λ (v : List ℕ). buffers_of s v t) b ∙ ap (buffers_of s j) c
 
 -- ---- a turn of a loop that writes: the front grows by the value written at its length
 pub over_more : (front next buffer bs : List ℕ) (i v w : ℕ) → length front ≡ i → i < length buffer → next ≡ front ++ w ∷ [] → v ≡ w → bs ≡ over front buffer → set bs i v ≡ over next buffer

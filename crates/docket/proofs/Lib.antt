@@ -1,13 +1,14 @@
 pub mod Entered
 pub mod PlacedSteps
-pub mod Turns
+pub mod Judged
 pub mod Fronts
 pub mod Table
-pub mod Holds
+pub mod HolderSteps
 pub mod Placing
 pub mod Lifting
 pub mod Sums
 pub mod Certified
-pub mod Slotted
+pub mod AnsweredSlots
 pub mod Made
 pub mod Awaiting
+pub mod Runs

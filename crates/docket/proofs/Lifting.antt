@@ -1,11 +1,12 @@
 -- A step lifted. Assumes nothing.
-use Rattle.std.proofs.Common.{◌≡◌, ℕ, ◌+◌, ◌-◌, ◌<◌, ◌≤◌, false, List, [], ◌∷◌, ◌++◌, map, length, get_or, take, sym, refl, ap, ◌∙◌, arith}
-use Rattle.std.proofs.lemmas.List.{same_from_push}
+use Rattle.std.proofs.Common.{◌≡◌, ℕ, ◌+◌, ◌-◌, ◌<◌, false, List, [], ◌∷◌, ◌++◌, map, length, get_or, take, Ok, Err, sym, refl, ap, ◌∙◌, arith}
+use Rattle.std.proofs.lemmas.List.{same_from_push, get_or-take, take_all, take_at}
+use Rattle.std.proofs.lemmas.Bool.{eq-eqb, ne_eqb, cond-true, cond-false}
 use Rattle.giving.specs.Lists.{SeatRule, times}
-use Rattle.giving.proofs.Counts.{times_take}
 use Rattle.order.specs.declared.operation.Paired.{Paired}
 use Rattle.order.specs.Steps.{operation, rank_error, passes_over, giving_after, rank_errors, lateness, adds_in}
-use Rattle.order.proofs.Sums.{passes_times}
+use Rattle.calls.specs.declared.fault.DocketFault.TheVariants.{NothingToLift}
+use Rattle.calls.specs.Rules.{lift_answer, without_last}
 use Rattle.docket.specs.declared.entry.Entry.{Entry}
 use Rattle.docket.specs.declared.step.Step.{Step}
 use Rattle.docket.specs.declared.ledger.Ledger.{Ledger}
@@ -14,11 +15,25 @@ use Rattle.docket.specs.InAgreement.{paired_in, ops_of, steps_of, InAgreement}
 use Rattle.holder.specs.Meanings.{Meaning}
 use Rattle.docket.specs.Moves.{replayed, with_late, one_less, with_flag, changed_at, changed_all}
 use Rattle.docket.proofs.PlacedSteps.{last_step}
-use Rattle.order.proofs.Sizes.{held_times}
+use Rattle.order.proofs.Sizes.{passes_held}
 use Rattle.order.proofs.Growing.{one_more_step}
 use Rattle.docket.proofs.Table.{keeps_one, map_keeps_one, map_keeps_all, late_down}
-use Rattle.docket.proofs.Holds.{replayed_held}
-use Rattle.docket.proofs.Placing.{long_steps, long_numbers, long_ranks, sane}
+use Rattle.docket.proofs.HolderSteps.{replayed_held}
+use Rattle.docket.proofs.Placing.{long_steps, long_numbers, long_ranks, deeds_agree, agrees_as}
+
+-- what lift answers, and where there is no step also what it leaves
+module _ (l : Ledger) where
+  pub lift_none : l.placed ≡ 0 → Err NothingToLift ≡ lift_answer (steps_of l)
+  lift_none z = sym (cond-true _ _ _ (eq-eqb (length (steps_of l)) 0 (omega (arith, long_steps l))))
+
+  pub lift_none_left : l.placed ≡ 0 → steps_of l ≡ without_last (steps_of l)
+  lift_none_left z = sym (take_all (length (steps_of l) - 1) (steps_of l) (omega (arith, long_steps l)))
+
+  pub lift_last : 0 < l.placed → (x : ℕ) → x ≡ get_or (numbers_in l.steps) (l.placed - 1) 0 → Ok x ≡ lift_answer (steps_of l)
+  lift_last pos x is =
+      let last : get_or (steps_of l) (length (steps_of l) - 1) 0 ≡ x =
+      ap (λ (n : ℕ). get_or (steps_of l) (n - 1) 0) (long_steps l) ∙ get_or-take l.placed (numbers_in l.steps) (l.placed - 1) 0 (omega arith) ∙ sym is in
+      ap Ok (sym last) ∙ sym (cond-false _ _ _ (ne_eqb (length (steps_of l)) 0 (λ z. omega (arith, long_steps l))))
 
 -- the last step taken out
 module _ (seat : SeatRule) (l u : Ledger) (x : ℕ)
@@ -38,6 +53,10 @@ module _ (seat : SeatRule) (l u : Ledger) (x : ℕ)
 
   l_steps : steps_of l ≡ steps_of u ++ x ∷ []
   l_steps = last_step (numbers_in l.steps) l.placed x pos (omega (arith, long_numbers l)) x-is ∙ ap (λ (v : List ℕ). v ++ x ∷ []) (sym u_steps)
+
+  pub lifted_steps : steps_of u ≡ without_last (steps_of l)
+  lifted_steps =
+      sym (ap (λ (n : ℕ). take (n - 1) (steps_of l)) (long_steps l) ∙ ap (take (l.placed - 1)) l_steps ∙ take_at (steps_of u) (x ∷ []) (l.placed - 1) (long_steps u ∙ u-placed))
 
   moved_ops : (es : List Entry) (cs : List ℕ) → es ≡ changed_all (with_late one_less) u.entries cs → take u.count (map paired_in es) ≡ ops_of u
   moved_ops es cs e = ap (take u.count) (ap (map paired_in) e ∙ map_keeps_all paired_in (with_late one_less) (λ e. refl) cs u.entries)
@@ -60,20 +79,13 @@ module _ (seat : SeatRule) (l u : Ledger) (x : ℕ)
     m_steps = ap (λ (v : ℕ). take v (numbers_in m.steps)) m-placed ∙ ap (λ (v : List Step). take u.placed (numbers_in v)) m-ss
 
     stand_is : ◌≡◌ {A = Meaning} (record { list = L; count = n }) (record { list = giving_after seat (ops_of u) (steps_of u); count = 0 + adds_in (ops_of u) (steps_of u) })
-    stand_is = stand ∙ replayed_held seat u.entries (ops_of u) (steps_of u) [] 0 (sane u) (λ y. omega (arith, u.once y)) (omega (arith, long_steps u))
+    stand_is = stand ∙ replayed_held seat u.entries (ops_of u) (steps_of u) [] 0 (deeds_agree u) (λ y. omega (arith, u.once y)) (omega (arith, long_steps u))
 
     l_is : L ≡ giving_after seat (ops_of u) (steps_of u)
     l_is = ap (λ (s : Meaning). s.list) stand_is
 
     n_is : n ≡ adds_in (ops_of u) (steps_of u)
     n_is = omega (arith, ap (λ (s : Meaning). s.count) stand_is)
-
-    -- the holder gives what the steps that are left come to, whatever it gave before
-    pub lifted_gives : L ≡ giving_after seat (ops_of m) (steps_of m)
-    lifted_gives = l_is ∙ ap (giving_after seat (ops_of u)) (sym m_steps) ∙ ap (λ (o : List Paired). giving_after seat o (steps_of m)) (sym m_to_u)
-
-    pub lifted_adds : n ≡ adds_in (ops_of m) (steps_of m)
-    lifted_adds = n_is ∙ ap (adds_in (ops_of u)) (sym m_steps) ∙ ap (λ (o : List Paired). adds_in o (steps_of m)) (sym m_to_u)
 
     module _ (K : List ℕ) (a : ℕ) (i : InAgreement seat K a l) where
       ranks_are : (take (l.placed - 1) (ranks_in l.steps) ≡ rank_errors seat (ops_of u) (steps_of u)) × (r ≡ rank_error (operation (ops_of u) x).deed (giving_after seat (ops_of u) (steps_of u)))
@@ -82,27 +94,21 @@ module _ (seat : SeatRule) (l u : Ledger) (x : ℕ)
           (sym (last_step (ranks_in l.steps) l.placed r pos (omega (arith, long_ranks l)) r_is) ∙ i.errors ∙ ap (rank_errors seat (ops_of l)) l_steps
           ∙ ap (λ (o : List Paired). rank_errors seat o (steps_of u ++ x ∷ [])) (sym u_ops) ∙ (one_more_step seat (ops_of u) (steps_of u) x).errors_by_step)
 
-      late_is : (y : ℕ) → y < l.count → (entry_of m.entries y).late ≡ lateness seat (ops_of u) y (steps_of u)
-      late_is y yn =
+      lifted_late : (y : ℕ) → y < l.count → (entry_of m.entries y).late ≡ lateness seat (ops_of u) y (steps_of u)
+      lifted_late y yn =
           let H : List ℕ = giving_after seat (ops_of u) (steps_of u) in
           let before : (entry_of l.entries y).late ≡ lateness seat (ops_of u) y (steps_of u) + passes_over y (rank_error (operation (ops_of u) x).deed H) H =
           i.lates y yn ∙ ap (lateness seat (ops_of l) y) l_steps ∙ ap (λ (o : List Paired). lateness seat o y (steps_of u ++ x ∷ [])) (sym u_ops) ∙ (one_more_step seat (ops_of u) (steps_of u) x).latenesses y in
           let same : passes_over y (rank_error (operation (ops_of u) x).deed H) H ≡ passes_over y r L = ap (λ (v : ℕ). passes_over y v H) (sym ranks_are.1) ∙ ap (passes_over y r) (sym l_is) in
-          let one : times y (take r L) ≤ 1 = omega (arith, times_take y r L, ap (times y) l_is, held_times seat (ops_of u) y (steps_of u) [], u.once y) in
-          let hit : passes_over y r L ≡ times y (take r L) = passes_times y r L one in
+          let hit = passes_held seat (ops_of u) y r (steps_of u) L l_is (u.once y) in
           let long : y < length u.entries = omega arith in
           let kept : (entry_of u.entries y).late ≡ (entry_of l.entries y).late =
           ap (λ (es : List Entry). (entry_of es y).late) u-es ∙ keeps_one (λ (v : Entry). v.late) (with_flag false) (λ v. refl) l.entries x y in
           let put : (entry_of m.entries y).late ≡ (entry_of u.entries y).late - times y (take r L) =
           ap (λ (es : List Entry). (entry_of es y).late) m-es ∙ late_down (take r L) u.entries y long in
-          omega (arith, before, same, hit, kept, put)
+          omega (arith, before, same, hit.0, kept, put)
 
       pub lifted_agrees : InAgreement seat L n m
-      lifted_agrees = record {
-        gives = lifted_gives;
-        added = lifted_adds;
-        lates = λ y yn. late_is y (omega (arith, m-count, u-count, yn)) ∙ ap (lateness seat (ops_of u) y) (sym m_steps) ∙ ap (λ (o : List Paired). lateness seat o y (steps_of m)) (sym m_to_u);
-        errors =
-            ap (λ (v : ℕ). take v (ranks_in m.steps)) (m-placed ∙ u-placed) ∙ ap (λ (v : List Step). take (l.placed - 1) (ranks_in v)) (m-ss ∙ u-ss) ∙ ranks_are.0
-            ∙ ap (rank_errors seat (ops_of u)) (sym m_steps) ∙ ap (λ (o : List Paired). rank_errors seat o (steps_of m)) (sym m_to_u);
-      }
+      lifted_agrees =
+          agrees_as seat m L n (ops_of u) (steps_of u) m_to_u m_steps l_is n_is (λ y yn. lifted_late y (omega (arith, m-count, u-count, yn)))
+          (ap (λ (v : ℕ). take v (ranks_in m.steps)) (m-placed ∙ u-placed) ∙ ap (λ (v : List Step). take (l.placed - 1) (ranks_in v)) (m-ss ∙ u-ss) ∙ ranks_are.0)

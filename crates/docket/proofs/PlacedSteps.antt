@@ -10,10 +10,11 @@ use Rattle.giving.proofs.Counts.{times_push, times_self, times_other}
 use Rattle.order.proofs.Sums.{sum_below_times, sum_below_full}
 use Rattle.calls.specs.Rules.{lowest}
 use Rattle.docket.specs.declared.entry.Entry.{Entry}
-use Rattle.docket.specs.Kept.{blank, entry_of, Known, Flagged}
+use Rattle.docket.specs.Kept.{entry_of, StepsAreOperations, Flagged}
 use Rattle.docket.specs.Moves.{with_flag, changed_at}
+use Rattle.docket.proofs.Table.{changed_here, changed_there}
 
-pub known_all : (n m : ℕ) (ss : List ℕ) → m ≤ length ss → Known n ss m → AllByRecursion (λ x. x < n) (take m ss)
+pub known_all : (n m : ℕ) (ss : List ℕ) → m ≤ length ss → StepsAreOperations n ss m → AllByRecursion (λ x. x < n) (take m ss)
 known_all n m ss l h =
     let e = length-take-le m ss l in
     All-from_get_or (λ (x : ℕ). x < n) (take m ss) 0 (λ i il. let im : i < m = omega arith in rw get_or-take (h i im))
@@ -23,7 +24,7 @@ pub unflagged : (b : Bool) (t : ℕ) → b ≡ not (eqb t 0) → b ≡ false →
 unflagged b t e f = eqb-true t 0 (not-false (eqb t 0) (sym e ∙ f))
 
 -- while an operation is not placed, there is room for a step
-pub room : (n m x : ℕ) (ss : List ℕ) → m ≤ length ss → Known n ss m → Once (take m ss) → x < n → times x (take m ss) ≡ 0 → m < n
+pub room : (n m x : ℕ) (ss : List ℕ) → m ≤ length ss → StepsAreOperations n ss m → Once (take m ss) → x < n → times x (take m ss) ≡ 0 → m < n
 room n m x ss l known once xn z =
     ⊎_elim
     (λ (h : m < n). h)
@@ -35,7 +36,7 @@ room n m x ss l known once xn z =
     (cases_lt m n)
 
 module _ (ss : List ℕ) (m x : ℕ) (l : m < length ss) where
-  pub known_added : (n : ℕ) → Known n ss m → x < n → Known n (set ss m x) (m + 1)
+  pub known_added : (n : ℕ) → StepsAreOperations n ss m → x < n → StepsAreOperations n (set ss m x) (m + 1)
   known_added n known xn i il =
       ⊎_elim
       (λ (e : i ≡ m). let g : get_or (set ss m x) i 0 ≡ x = ap (λ (j : ℕ). get_or (set ss m x) j 0) e ∙ get_or-set_same ss m x 0 l in omega arith)
@@ -57,11 +58,11 @@ module _ (ss : List ℕ) (m x : ℕ) (l : m < length ss) where
       (λ (e : y ≡ x).
       let t : times y (take (m + 1) (set ss m x)) ≡ times x (take m ss) + 1 = p ∙ ap (λ (v : ℕ). times v (take m ss ++ x ∷ [])) e ∙ times_self x (take m ss) in
       let f : eqb (times y (take (m + 1) (set ss m x))) 0 ≡ false = ne_eqb _ _ (λ z. omega arith) in
-      let g : (get_or (changed_at (with_flag true) es x) y blank).placed ≡ true = ap (λ (v : ℕ). (get_or (changed_at (with_flag true) es x) v blank).placed) e ∙ ap (λ (v : Entry). v.placed) (get_or-set_same es x (with_flag true (entry_of es x)) blank xl) in
+      let g = changed_here (λ (v : Entry). v.placed) (with_flag true) es x y e (omega arith) in
       g ∙ sym (ap not f))
       (λ (e : y ≡ x → ⊥).
       let t : times y (take (m + 1) (set ss m x)) ≡ times y (take m ss) = p ∙ times_other y x (take m ss) e in
-      let g : (get_or (changed_at (with_flag true) es x) y blank).placed ≡ (entry_of es y).placed = ap (λ (v : Entry). v.placed) (get_or-set_other es x y (with_flag true (entry_of es x)) blank e) in
+      let g = changed_there (λ (v : Entry). v.placed) (with_flag true) es x y e in
       g ∙ flagged y yn ∙ sym (ap (λ (v : ℕ). not (eqb v 0)) t))
       (cases_eq y x)
 
@@ -84,11 +85,11 @@ module _ (ss : List ℕ) (m x : ℕ) (h : 0 < m) (l : m ≤ length ss) (is : x �
       (λ (e : y ≡ x).
       let t : times y (take (m - 1) ss) ≡ 0 = ap (λ (v : ℕ). times v (take (m - 1) ss)) e ∙ none_before once in
       let f : eqb (times y (take (m - 1) ss)) 0 ≡ true = eq-eqb _ _ t in
-      let g : (get_or (changed_at (with_flag false) es x) y blank).placed ≡ false = ap (λ (v : ℕ). (get_or (changed_at (with_flag false) es x) v blank).placed) e ∙ ap (λ (v : Entry). v.placed) (get_or-set_same es x (with_flag false (entry_of es x)) blank xl) in
+      let g = changed_here (λ (v : Entry). v.placed) (with_flag false) es x y e (omega arith) in
       g ∙ sym (ap not f))
       (λ (e : y ≡ x → ⊥).
       let t : times y (take m ss) ≡ times y (take (m - 1) ss) = p ∙ times_other y x (take (m - 1) ss) e in
-      let g : (get_or (changed_at (with_flag false) es x) y blank).placed ≡ (entry_of es y).placed = ap (λ (v : Entry). v.placed) (get_or-set_other es x y (with_flag false (entry_of es x)) blank e) in
+      let g = changed_there (λ (v : Entry). v.placed) (with_flag false) es x y e in
       g ∙ flagged y yn ∙ ap (λ (v : ℕ). not (eqb v 0)) t)
       (cases_eq y x)
 

@@ -5,11 +5,9 @@ use Rattle.std.proofs.ByRecursion.{All-from_get_or}
 use Rattle.std.proofs.lemmas.List.{take_more_set, length-take-le, length-map, get_or-map, take-map, get_or-take}
 use Rattle.std.proofs.lemmas.Bool.{cases_lt, cases_Bool, le-leb, cond-true, cond-false}
 use Rattle.giving.specs.Lists.{SeatRule, times}
-use Rattle.giving.proofs.Counts.{times_take}
 use Rattle.order.specs.declared.operation.Deed.{Deed}
 use Rattle.order.specs.declared.operation.Paired.{Paired}
 use Rattle.order.specs.Steps.{operation, has_rank, rank_error, after_step, passes_over, giving_after, rank_errors, lateness, items_added, adds_in}
-use Rattle.order.proofs.Sums.{passes_times}
 use Rattle.calls.specs.declared.fault.DocketFault.{DocketFault}
 use Rattle.calls.specs.declared.fault.DocketFault.TheVariants.{NoSuchOperation, PlacedAlready, NotHeld, AboveBound}
 use Rattle.calls.specs.Rules.{lowest, unplaced, waits_for, unless_early, place_answer}
@@ -17,17 +15,16 @@ use Rattle.docket.specs.declared.entry.Entry.{Entry}
 use Rattle.docket.specs.declared.step.Step.{Step}
 use Rattle.docket.specs.declared.ledger.Ledger.{Ledger}
 use Rattle.docket.specs.Kept.{blank, entry_of, numbers_in, ranks_in}
-use Rattle.docket.specs.InAgreement.{paired_in, ops_of, steps_of, InAgreement}
+use Rattle.docket.specs.InAgreement.{paired_in, ops_of, steps_of, errors_of, InAgreement}
 use Rattle.holder.specs.Meanings.{Meaning}
 use Rattle.docket.specs.Moves.{stepped, rank_found, waits, judged, judged_rank, with_late, one_more, with_flag, changed_at, changed_all}
 use Rattle.docket.proofs.PlacedSteps.{lowest_position, lowest_ext, unflagged, room}
-use Rattle.docket.proofs.Turns.{judged_in}
-use Rattle.order.proofs.Sizes.{held_times, adds_le, late_le}
+use Rattle.docket.proofs.Judged.{judged_in}
+use Rattle.order.proofs.Sizes.{held_times, passes_held, adds_le, late_le}
 use Rattle.order.proofs.Growing.{one_more_step}
 use Rattle.docket.proofs.Table.{op_at, length_ops, keeps_one, map_keeps_one, map_keeps_all, late_up}
-use Rattle.docket.proofs.Holds.{Sane, stepped_after}
+use Rattle.docket.proofs.HolderSteps.{DeedAgrees, stepped_after}
 
--- ---- dockets
 -- ---- what holds of every ledger
 -- what stands past the last step
 abbrev pub no_step : Step
@@ -35,10 +32,10 @@ no_step = record { operation = 0; rank = 0 }
 
 module _ (l : Ledger) where
   pub long_numbers : length (numbers_in l.steps) ≡ 1024
-  long_numbers = length-map l.steps (λ s. s.operation) ∙ l.full.1
+  long_numbers = length-map l.steps (λ s. s.operation) ∙ l.lengths.1
 
   pub long_ranks : length (ranks_in l.steps) ≡ 1024
-  long_ranks = length-map l.steps (λ s. s.rank) ∙ l.full.1
+  long_ranks = length-map l.steps (λ s. s.rank) ∙ l.lengths.1
 
   pub long_steps : length (steps_of l) ≡ l.placed
   long_steps = length-take-le l.placed (numbers_in l.steps) (omega (arith, long_numbers))
@@ -83,14 +80,25 @@ module _ (l : Ledger) where
   pub long_ops : length (ops_of l) ≡ l.count
   long_ops = length_ops l.entries l.count (omega arith)
 
-  pub sane : AllByRecursion (Sane (λ L c. 0) l.entries (ops_of l)) (steps_of l)
-  sane =
-      All-from_get_or (Sane (λ L c. 0) l.entries (ops_of l)) (steps_of l) 0
+  pub deeds_agree : AllByRecursion (DeedAgrees (λ L c. 0) l.entries (ops_of l)) (steps_of l)
+  deeds_agree =
+      All-from_get_or (DeedAgrees (λ L c. 0) l.entries (ops_of l)) (steps_of l) 0
       (λ i h.
       let im : i < l.placed = omega (arith, long_steps) in
       let e = get_or-take l.placed (numbers_in l.steps) i 0 im in
       let xn : get_or (steps_of l) i 0 < l.count = omega (arith, e, l.known i im) in
       (omega arith, sym (ap (λ (o : Paired). o.deed) (op_is (get_or (steps_of l) i 0) xn))))
+
+-- a ledger with no step is in agreement with a holder that was cleared
+pub opened_agrees : (seat : SeatRule) (l : Ledger) (L : List ℕ) (n : ℕ) → l.placed ≡ 0 → ((x : ℕ) → (entry_of l.entries x).late ≡ 0) → L ≡ [] → n ≡ 0 → InAgreement seat L n l
+opened_agrees seat l L n z late empty none =
+    let no : steps_of l ≡ [] = ap (λ (m : ℕ). take m (numbers_in l.steps)) z in
+    record {
+      gives = empty ∙ sym (ap (giving_after seat (ops_of l)) no);
+      added = none ∙ sym (ap (adds_in (ops_of l)) no);
+      lates = (λ x h. late x ∙ sym (ap (lateness seat (ops_of l) x) no));
+      errors = ap (λ (m : ℕ). take m (ranks_in l.steps)) z ∙ sym (ap (rank_errors seat (ops_of l)) no);
+    }
 
 -- ---- the rules
 answered : List ℕ → ℕ → ℕ → ℕ → Bool → Option ℕ → Deed → List ℕ → Result ℕ DocketFault
@@ -190,6 +198,16 @@ judged_rank_is m n x k b w d L v h f e =
     rank_of_answered m k w d L v
     (e ∙ judged_in m n x k b w (rank_found d L) h ∙ cond-false b _ _ f ∙ ap (unless_early m w) (rank_answered m k d L))
 
+-- ---- an agreement, by the operations and the steps that a ledger is known to have
+pub agrees_as : (seat : SeatRule) (l : Ledger) (L : List ℕ) (n : ℕ) (ops : List Paired) (p : List ℕ) → ops_of l ≡ ops → steps_of l ≡ p → L ≡ giving_after seat ops p → n ≡ adds_in ops p
+    → ((y : ℕ) → y < l.count → (entry_of l.entries y).late ≡ lateness seat ops y p) → errors_of l ≡ rank_errors seat ops p → InAgreement seat L n l
+agrees_as seat l L n ops p o s g a late e = record {
+  gives = g ∙ ap (giving_after seat ops) (sym s) ∙ ap (λ (v : List Paired). giving_after seat v (steps_of l)) (sym o);
+  added = a ∙ ap (adds_in ops) (sym s) ∙ ap (λ (v : List Paired). adds_in v (steps_of l)) (sym o);
+  lates = λ y h. late y h ∙ ap (lateness seat ops y) (sym s) ∙ ap (λ (v : List Paired). lateness seat v y (steps_of l)) (sym o);
+  errors = e ∙ ap (rank_errors seat ops) (sym s) ∙ ap (λ (v : List Paired). rank_errors seat v (steps_of l)) (sym o);
+}
+
 -- ---- a step placed
 module _ (seat : SeatRule) (l m : Ledger) (L : List ℕ) (x r : ℕ)
     (xn : x < l.count) (off : (entry_of l.entries x).placed ≡ false)
@@ -215,54 +233,44 @@ module _ (seat : SeatRule) (l m : Ledger) (L : List ℕ) (x r : ℕ)
   module _ (n n' : ℕ) (L' : List ℕ) (i : InAgreement seat L n l)
       (rank_is : r ≡ rank_error (entry_of l.entries x).paired.deed L)
       (stand_is : ◌≡◌ {A = Meaning} (record { list = L'; count = n' }) (stepped seat x (entry_of l.entries x).paired.deed (record { list = L; count = n }))) where
-    d : Deed
-    d = (operation (ops_of l) x).deed
+    deed : Deed
+    deed = (operation (ops_of l) x).deed
 
-    d_is : (entry_of l.entries x).paired.deed ≡ d
-    unfolding d
-    d_is = sym (ap (λ (o : Paired). o.deed) (op_is l x xn))
+    deed_is : (entry_of l.entries x).paired.deed ≡ deed
+    unfolding deed
+    deed_is = sym (ap (λ (o : Paired). o.deed) (op_is l x xn))
 
     once_held : (a : ℕ) → times a L ≤ times a (steps_of l)
     once_held a = omega (arith, ap (times a) i.gives, held_times seat (ops_of l) a (steps_of l) [])
 
-    after_is : ◌≡◌ {A = Meaning} (record { list = L'; count = n' }) (record { list = after_step seat x d L; count = n + items_added d })
+    after_is : ◌≡◌ {A = Meaning} (record { list = L'; count = n' }) (record { list = after_step seat x deed L; count = n + items_added deed })
     after_is =
-        stand_is ∙ ap (λ (e : Deed). stepped seat x e (record { list = L; count = n })) d_is
-        ∙ stepped_after seat x d L n (omega arith) (omega (arith, once_held x, new))
+        stand_is ∙ ap (λ (e : Deed). stepped seat x e (record { list = L; count = n })) deed_is
+        ∙ stepped_after seat x deed L n (omega arith) (omega (arith, once_held x, new))
         (omega (arith, i.added, adds_le (ops_of l) (steps_of l), long_steps l, fits))
 
-    r_is : r ≡ rank_error d (giving_after seat (ops_of l) (steps_of l))
-    r_is = rank_is ∙ ap (λ (e : Deed). rank_error e L) d_is ∙ ap (rank_error d) i.gives
+    r_is : r ≡ rank_error deed (giving_after seat (ops_of l) (steps_of l))
+    r_is = rank_is ∙ ap (λ (e : Deed). rank_error e L) deed_is ∙ ap (rank_error deed) i.gives
 
-    late_is : (y : ℕ) → y < l.count → (entry_of m.entries y).late ≡ lateness seat (ops_of l) y (steps_of l ++ x ∷ [])
-    unfolding d
-    late_is y yn =
+    placed_late : (y : ℕ) → y < l.count → (entry_of m.entries y).late ≡ lateness seat (ops_of l) y (steps_of l ++ x ∷ [])
+    unfolding deed
+    placed_late y yn =
         let a = i.lates y yn in
-        let t : times y (take r L) ≤ 1 = omega (arith, times_take y r L, once_held y, l.once y) in
-        let b : passes_over y r L ≡ times y (take r L) = passes_times y r L t in
-        let e : passes_over y r L ≡ passes_over y (rank_error d (giving_after seat (ops_of l) (steps_of l))) (giving_after seat (ops_of l) (steps_of l)) =
-        ap (λ (v : ℕ). passes_over y v L) r_is ∙ ap (passes_over y (rank_error d (giving_after seat (ops_of l) (steps_of l)))) i.gives in
+        let b = passes_held seat (ops_of l) y r (steps_of l) L i.gives (l.once y) in
+        let e : passes_over y r L ≡ passes_over y (rank_error deed (giving_after seat (ops_of l) (steps_of l))) (giving_after seat (ops_of l) (steps_of l)) =
+        ap (λ (v : ℕ). passes_over y v L) r_is ∙ ap (passes_over y (rank_error deed (giving_after seat (ops_of l) (steps_of l)))) i.gives in
         let c = late_le seat (ops_of l) y (steps_of l) [] in
         let k : (entry_of m.entries y).late ≡ (get_or (changed_all (with_late one_more) l.entries (take r L)) y blank).late =
         ap (λ (es : List Entry). (entry_of es y).late) es-is ∙ keeps_one (λ (v : Entry). v.late) (with_flag true) (λ v. refl) (changed_all (with_late one_more) l.entries (take r L)) x y in
-        let u = late_up (take r L) l.entries y (omega arith) (omega (arith, a, t, c, long_steps l)) in
-        omega (arith, k, u, a, b, e, (one_more_step seat (ops_of l) (steps_of l) x).latenesses y)
+        let u = late_up (take r L) l.entries y (omega arith) (omega (arith, a, b.1, c, long_steps l)) in
+        omega (arith, k, u, a, b.0, e, (one_more_step seat (ops_of l) (steps_of l) x).latenesses y)
 
     pub placed_agrees : InAgreement seat L' n' m
-    unfolding d
-    placed_agrees = record {
-      gives =
-          ap (λ (s : Meaning). s.list) after_is ∙ ap (after_step seat x d) i.gives ∙ sym (one_more_step seat (ops_of l) (steps_of l) x).giving
-          ∙ ap (giving_after seat (ops_of l)) (sym placed_steps) ∙ ap (λ (o : List Paired). giving_after seat o (steps_of m)) (sym placed_ops);
-      added =
-          ap (λ (s : Meaning). s.count) after_is ∙ ap (λ (v : ℕ). v + items_added d) i.added ∙ sym (one_more_step seat (ops_of l) (steps_of l) x).adds
-          ∙ ap (adds_in (ops_of l)) (sym placed_steps) ∙ ap (λ (o : List Paired). adds_in o (steps_of m)) (sym placed_ops);
-      lates = λ y yn.
-          late_is y (omega (arith, count_is, yn))
-          ∙ ap (lateness seat (ops_of l) y) (sym placed_steps) ∙ ap (λ (o : List Paired). lateness seat o y (steps_of m)) (sym placed_ops);
-      errors =
-          ap (λ (v : ℕ). take v (ranks_in m.steps)) placed-is ∙ ap (take (l.placed + 1)) rs-is ∙ take_more_set (ranks_in l.steps) l.placed r (omega (arith, fits, long_ranks l))
-          ∙ ap (λ (v : List ℕ). v ++ r ∷ []) i.errors ∙ ap (λ (v : ℕ). rank_errors seat (ops_of l) (steps_of l) ++ v ∷ []) r_is
-          ∙ sym (one_more_step seat (ops_of l) (steps_of l) x).errors_by_step
-          ∙ ap (rank_errors seat (ops_of l)) (sym placed_steps) ∙ ap (λ (o : List Paired). rank_errors seat o (steps_of m)) (sym placed_ops);
-    }
+    unfolding deed
+    placed_agrees =
+        agrees_as seat m L' n' (ops_of l) (steps_of l ++ x ∷ []) placed_ops placed_steps
+        (ap (λ (s : Meaning). s.list) after_is ∙ ap (after_step seat x deed) i.gives ∙ sym (one_more_step seat (ops_of l) (steps_of l) x).giving)
+        (ap (λ (s : Meaning). s.count) after_is ∙ ap (λ (v : ℕ). v + items_added deed) i.added ∙ sym (one_more_step seat (ops_of l) (steps_of l) x).adds)
+        (λ y yn. placed_late y (omega (arith, count_is, yn)))
+        (ap (λ (v : ℕ). take v (ranks_in m.steps)) placed-is ∙ ap (take (l.placed + 1)) rs-is ∙ take_more_set (ranks_in l.steps) l.placed r (omega (arith, fits, long_ranks l))
+        ∙ ap (λ (v : List ℕ). v ++ r ∷ []) i.errors ∙ ap (λ (v : ℕ). rank_errors seat (ops_of l) (steps_of l) ++ v ∷ []) r_is ∙ sym (one_more_step seat (ops_of l) (steps_of l) x).errors_by_step)

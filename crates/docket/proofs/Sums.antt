@@ -9,7 +9,7 @@ use Rattle.std.proofs.lemmas.Bool.{cond-true, lt-ltb}
 use Rattle.std.proofs.lemmas.Bool.Decides.{nat_tests}
 use Rattle.giving.specs.Lists.{place}
 use Rattle.calls.specs.Rules.{largest_of, summed_up}
-use Rattle.calls.proofs.Filled.{largest_stands}
+use Rattle.calls.proofs.Largest.{largest_stands}
 use Rattle.calls.specs.declared.certificate.Certificate.{Certificate}
 use Rattle.docket.specs.declared.step.Step.{Step}
 use Rattle.docket.specs.Kept.{ranks_in}

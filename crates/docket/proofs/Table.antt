@@ -1,9 +1,10 @@
--- The table read as operations, and what changes of its entries leave. Assumes nothing.
-use Rattle.std.proofs.Common.{◌≡◌, ℕ, zero, suc, ◌+◌, ◌-◌, ◌<◌, ◌≤◌, eqb, List, [], ◌∷◌, map, length, take, sym, refl, ap, ◌∙◌, ⊎_elim, arith, length-set}
+-- The table read as operations, and its entries changed at one code after another: what that changes and what it leaves. Assumes nothing.
+use Rattle.std.proofs.Common.{◌≡◌, ℕ, zero, suc, ◌+◌, ◌-◌, ◌<◌, ◌≤◌, List, [], ◌∷◌, ◌++◌, map, length, get_or, take, sym, refl, ap, ◌∙◌, ⊎_elim, arith, length-set}
 use lib.ListN.{length-map}
-use Rattle.std.proofs.lemmas.List.{get_or-take, get_or-map, get_or-set_same, get_or-set_other, length-take-le}
-use Rattle.std.proofs.lemmas.Bool.{cases_eq, eq-eqb, ne_eqb, cond-true, cond-false}
+use Rattle.std.proofs.lemmas.List.{get_or-take, get_or-map, get_or-set_same, get_or-set_other, length-take-le, take_more}
+use Rattle.std.proofs.lemmas.Bool.{cases_eq}
 use Rattle.giving.specs.Lists.{times}
+use Rattle.giving.proofs.Counts.{times_here, times_there}
 use Rattle.order.specs.Steps.{operation}
 use Rattle.docket.specs.declared.entry.Entry.{Entry}
 use Rattle.docket.specs.declared.ledger.Ledger.{Ledger}
@@ -41,18 +42,13 @@ module _ {Y : Type 0} (F : Entry → Y) (f : Entry → Entry) (same : (e : Entry
   map_keeps_all [] es = refl
   map_keeps_all (c ∷ cs) es = map_keeps_all cs (changed_at f es c) ∙ map_keeps_one es c
 
-times_hit : (k c : ℕ) (cs : List ℕ) → k ≡ c → times k (c ∷ cs) ≡ 1 + times k cs
-times_hit k c cs e = omega (arith, cond-true {A = ℕ} (eqb k c) 1 0 (eq-eqb k c e))
+-- a part of the entry that is changed, and of another
+module _ {Y : Type 0} (part : Entry → Y) (f : Entry → Entry) (es : List Entry) (c k : ℕ) where
+  pub changed_here : k ≡ c → k < length es → part (entry_of (changed_at f es c) k) ≡ part (f (entry_of es k))
+  changed_here e h = ap (λ (j : ℕ). part (entry_of (changed_at f es j) k)) (sym e) ∙ ap part (get_or-set_same es k (f (entry_of es k)) blank h)
 
-times_miss : (k c : ℕ) (cs : List ℕ) → (k ≡ c → ⊥) → times k (c ∷ cs) ≡ times k cs
-times_miss k c cs e = omega (arith, cond-false {A = ℕ} (eqb k c) 1 0 (ne_eqb k c e))
-
-late_here : (f : Entry → Entry) (es : List Entry) (c k : ℕ) → k ≡ c → k < length es → (entry_of (changed_at f es c) k).late ≡ (f (entry_of es k)).late
-late_here f es c k e h =
-    ap (λ (j : ℕ). (entry_of (changed_at f es j) k).late) (sym e) ∙ ap (λ (v : Entry). v.late) (get_or-set_same es k (f (entry_of es k)) blank h)
-
-late_there : (f : Entry → Entry) (es : List Entry) (c k : ℕ) → (k ≡ c → ⊥) → (entry_of (changed_at f es c) k).late ≡ (entry_of es k).late
-late_there f es c k e = ap (λ (v : Entry). v.late) (get_or-set_other es c k (f (entry_of es c)) blank e)
+  pub changed_there : (k ≡ c → ⊥) → part (entry_of (changed_at f es c) k) ≡ part (entry_of es k)
+  changed_there e = ap part (get_or-set_other es c k (f (entry_of es c)) blank e)
 
 pub late_up : (cs : List ℕ) (es : List Entry) (k : ℕ) → k < length es → (entry_of es k).late + times k cs ≤ 65535 → (entry_of (changed_all (with_late one_more) es cs) k).late ≡ (entry_of es k).late + times k cs
 unfolding changed_all
@@ -61,12 +57,12 @@ late_up (c ∷ cs) es k h low =
     let n = length-set es c (with_late one_more (entry_of es c)) in
     ⊎_elim
     (λ (e : k ≡ c).
-    let a = late_here (with_late one_more) es c k e h in
-    let t = times_hit k c cs e in
+    let a = changed_here (λ (v : Entry). v.late) (with_late one_more) es c k e h in
+    let t = times_here k c cs e in
     omega (arith, a, t, late_up cs (changed_at (with_late one_more) es c) k (omega arith) (omega (arith, a, t))))
     (λ (e : k ≡ c → ⊥).
-    let a = late_there (with_late one_more) es c k e in
-    let t = times_miss k c cs e in
+    let a = changed_there (λ (v : Entry). v.late) (with_late one_more) es c k e in
+    let t = times_there k c cs e in
     omega (arith, a, t, late_up cs (changed_at (with_late one_more) es c) k (omega arith) (omega (arith, a, t))))
     (cases_eq k c)
 
@@ -76,8 +72,8 @@ late_down [] es k h = omega arith
 late_down (c ∷ cs) es k h =
     let n = length-set es c (with_late one_less (entry_of es c)) in
     ⊎_elim
-    (λ (e : k ≡ c). omega (arith, late_here (with_late one_less) es c k e h, times_hit k c cs e, late_down cs (changed_at (with_late one_less) es c) k (omega arith)))
-    (λ (e : k ≡ c → ⊥). omega (arith, late_there (with_late one_less) es c k e, times_miss k c cs e, late_down cs (changed_at (with_late one_less) es c) k (omega arith)))
+    (λ (e : k ≡ c). omega (arith, changed_here (λ (v : Entry). v.late) (with_late one_less) es c k e h, times_here k c cs e, late_down cs (changed_at (with_late one_less) es c) k (omega arith)))
+    (λ (e : k ≡ c → ⊥). omega (arith, changed_there (λ (v : Entry). v.late) (with_late one_less) es c k e, times_there k c cs e, late_down cs (changed_at (with_late one_less) es c) k (omega arith)))
     (cases_eq k c)
 
 -- changed latenesses leave the flags
@@ -86,3 +82,17 @@ flag_kept f es fs cs x e = ap (λ (v : List Entry). (entry_of v x).placed) e ∙
 
 pub flags_kept : (f : ℕ → ℕ) (l : Ledger) (fs : List Entry) (cs : List ℕ) → fs ≡ changed_all (with_late f) l.entries cs → Flagged fs l.count (numbers_in l.steps) l.placed
 flags_kept f l fs cs e = λ x h. flag_kept f l.entries fs cs x e ∙ l.flagged x h
+
+-- ---- the entries changed at one code after another
+module _ (f : Entry → Entry) where
+  pub changed_push : (es : List Entry) (cs : List ℕ) (c : ℕ) → changed_all f es (cs ++ c ∷ []) ≡ changed_at f (changed_all f es cs) c
+  unfolding changed_all
+  changed_push es [] c = refl
+  changed_push es (d ∷ cs) c = changed_push (changed_at f es d) cs c
+
+  pub changed_more : (es : List Entry) (L : List ℕ) (i : ℕ) → i < length L → changed_all f es (take (i + 1) L) ≡ changed_at f (changed_all f es (take i L)) (get_or L i 0)
+  changed_more es L i h = ap (changed_all f es) (take_more L i 0 h) ∙ changed_push es (take i L) (get_or L i 0)
+
+  -- a turn
+  pub changed_step : (es₀ es es' : List Entry) (L : List ℕ) (i c : ℕ) → i < length L → c ≡ get_or L i 0 → es ≡ changed_all f es₀ (take i L) → es' ≡ changed_at f es c → es' ≡ changed_all f es₀ (take (i + 1) L)
+  changed_step es₀ es es' L i c h is was put = put ∙ ap (changed_at f es) is ∙ ap (λ (e : List Entry). changed_at f e (get_or L i 0)) was ∙ sym (changed_more es₀ L i h)

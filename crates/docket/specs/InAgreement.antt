@@ -3,11 +3,11 @@ use Rattle.std.specs.Prelude.{◌≡◌, ℕ, ◌<◌, List, map, take}
 use Rattle.giving.specs.Lists.{SeatRule}
 use Rattle.order.specs.declared.operation.Paired.{Paired}
 use Rattle.order.specs.Steps.{giving_after, rank_errors, lateness, adds_in}
-use Rattle.calls.specs.Rules.{Buffers}
 use Rattle.docket.specs.declared.entry.Entry.{Entry}
 use Rattle.docket.specs.declared.ledger.Ledger.{Ledger}
 use Rattle.docket.specs.Kept.{entry_of, numbers_in, ranks_in}
 
+-- the operation of an entry
 abbrev pub paired_in : Entry → Paired
 paired_in e = e.paired
 
@@ -29,12 +29,6 @@ pub record InAgreement (seat : SeatRule) (L : List ℕ) (n : ℕ) (l : Ledger) :
   pub lates : (x : ℕ) → x < l.count → (entry_of l.entries x).late ≡ lateness seat (ops_of l) x (steps_of l)
   pub errors : errors_of l ≡ rank_errors seat (ops_of l) (steps_of l)
 
--- ---- what a certificate is written from
-
--- three buffers
-abbrev pub three : List ℕ → List ℕ → List ℕ → Buffers
-three r i t = record { ranks = r; instants = i; latenesses = t }
-
--- the latenesses of the table
+-- the latenesses of the operations, as a certificate writes them
 abbrev pub lates_of : Ledger → List ℕ
 lates_of l = map (λ e. e.late) (take l.count l.entries)

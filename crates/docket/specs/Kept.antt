@@ -25,16 +25,17 @@ numbers_in ss = map (λ s. s.operation) ss
 abbrev pub ranks_in : List Step → List ℕ
 ranks_in ss = map (λ s. s.rank) ss
 
-abbrev pub Full : List Entry → List Step → Type 0
-Full es ss = (length es ≡ 1024) × (length ss ≡ 1024)
+-- table and steps have 1,024 entries each
+abbrev pub ArrayLengths : List Entry → List Step → Type 0
+ArrayLengths es ss = (length es ≡ 1024) × (length ss ≡ 1024)
 
 -- no more steps than operations, and no more operations than entries
-abbrev pub Few : ℕ → ℕ → Type 0
-Few n m = (m ≤ n) × (n ≤ 1024)
+abbrev pub CountsFit : ℕ → ℕ → Type 0
+CountsFit n m = (m ≤ n) × (n ≤ 1024)
 
 -- the m placed steps are among the n operations
-abbrev pub Known : ℕ → List ℕ → ℕ → Type 0
-Known n ss m = (i : ℕ) → i < m → slice_index ss i < n
+abbrev pub StepsAreOperations : ℕ → List ℕ → ℕ → Type 0
+StepsAreOperations n ss m = (i : ℕ) → i < m → slice_index ss i < n
 
 -- an operation is flagged when it is among the placed steps
 abbrev pub Flagged : List Entry → ℕ → List ℕ → ℕ → Type 0

@@ -2,6 +2,6 @@ pub mod Pairs
 pub mod Kept
 pub mod Moves
 pub mod InAgreement
-pub mod Lent
+pub mod Buffers
 pub mod Agreed
 pub mod Slots

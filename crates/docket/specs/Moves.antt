@@ -27,12 +27,13 @@ replayed seat es s (x ∷ p) = replayed seat es (stepped seat x (entry_of es x).
 unfoldable pub rank_found : Deed → List ℕ → Option ℕ
 rank_found d L = cond (has_rank d L) (Some (rank_error d L)) None
 
--- an operation is not placed, and ended before the instant t
-abbrev pub waits : List Entry → ℕ → ℕ → Bool
-waits es t b = not (entry_of es b).placed && nat_lt (entry_of es b).paired.end t
-
+-- the operation b is not placed
 abbrev pub not_placed : List Entry → ℕ → Bool
 not_placed es b = not (entry_of es b).placed
+
+-- it is not placed, and ended before the instant t
+abbrev pub waits : List Entry → ℕ → ℕ → Bool
+waits es t b = not_placed es b && nat_lt (entry_of es b).paired.end t
 
 -- the rules, from the number of steps m, the bound k, and what the table and the holder say of the operation x:
 -- how many operations there are, whether it is placed, what it waits for, and its rank error
@@ -40,6 +41,7 @@ abbrev pub judged_rank : ℕ → ℕ → Option ℕ → Result ℕ DocketFault
 judged_rank m k None = Err (NotHeld m)
 judged_rank m k (Some r) = cond (nat_lt k r) (Err (AboveBound m r)) (Ok r)
 
+-- the answer: the first rule that the step breaks, or its rank error
 unfoldable pub judged : ℕ → ℕ → ℕ → ℕ → Bool → Option ℕ → Option ℕ → Result ℕ DocketFault
 judged m n x k placed w r = cond (nat_le n x) (Err (NoSuchOperation m)) (cond placed (Err (PlacedAlready m)) (unless_early m w (judged_rank m k r)))
 

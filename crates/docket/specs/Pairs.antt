@@ -27,5 +27,6 @@ module _ {I : Type 0} where
     abbrev pub paired_all : List (Operation I) → List Paired
     paired_all os = map (paired_of os) os
 
+    -- those that are entered on a sheet
     abbrev pub sheet_ops : Sheet I → List Paired
     sheet_ops s = paired_all (entered s)

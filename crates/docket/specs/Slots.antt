@@ -4,14 +4,16 @@ use Rattle.calls.specs.Rules.{Buffers}
 use Rattle.calls.specs.Calls.{Call, Answer, place, run, lift, certify, to_place, to_run, to_lift, to_certify}
 use Rattle.docket.specs.declared.slot.Slot.{Slot}
 use Rattle.docket.specs.declared.slot.Slot.TheVariants.{Place, Run, Lift, Certify}
-use Rattle.docket.specs.Lent.{owned}
+use Rattle.docket.specs.Buffers.{owned}
 
+-- the call that a slot asks
 abbrev pub call_of : Slot → Call
 call_of (Place x a) = place x
 call_of (Run xs n s) = run (vec_items xs)
 call_of (Lift a) = lift
 call_of (Certify b a) = certify (owned b)
 
+-- the answer that it holds
 abbrev pub reply_of : Slot → Answer
 reply_of (Place x a) = to_place a
 reply_of (Run xs n s) = to_run n s

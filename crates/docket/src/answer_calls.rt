@@ -6,7 +6,7 @@ ghost use Rattle.calls.specs.Sessions.{Session};
 ghost use Rattle.calls.specs.Laws.{EveryAnswerIsTheRules, NothingElseMakesASession, EveryStepWasAcceptable, PlacingIsJudgedByTheRules, GrantedExactlyWhenTrue, TrueOrdersRunWhole, AnsweredRankErrorsAreShortestStretches, PlacedRankErrorsAreShortestStretches, RankErrorsAddUpToPassingsOver, GrantedCertificatesAreTrue, PlacedOrderKeepsToTime};
 ghost use Rattle.docket.specs.Pairs.{sheet_ops};
 ghost use Rattle.docket.specs.Slots.{Keeps, call_of, reply_of};
-ghost use Rattle.docket.specs.InAgreement.{three};
+ghost use Rattle.docket.specs.Buffers.{buffers_of};
 ghost use Rattle.docket.specs.Agreed.{ops_in, steps_in, bound_in, certifying, writing, replying, leaving, replying_all, leaving_all};
 
 use crate::buffers::Buffers;
@@ -26,8 +26,8 @@ fn certify_into<H: Holder>(
     instants: &mut [u64],
     latenesses: &mut [u16],
 ) -> Result<Certificate, DocketFault>
-    ensures answer { result ≡ certifying H.Holder docket.now (three ranks.old instants.old latenesses.old) }
-    ensures written { three ranks.new instants.new latenesses.new ≡ writing H.Holder docket.now (three ranks.old instants.old latenesses.old) result }
+    ensures answer { result ≡ certifying H.Holder docket.now (buffers_of ranks.old instants.old latenesses.old) }
+    ensures written { buffers_of ranks.new instants.new latenesses.new ≡ writing H.Holder docket.now (buffers_of ranks.old instants.old latenesses.old) result }
 {
     docket.certify(&mut Buffers {
         ranks,

@@ -1,8 +1,7 @@
 // The memory that a certificate is written into.
 ghost use Rattle.std.specs.Prelude.{◌≡◌, replicate, IfOk};
 ghost use Rattle.calls.specs.Rules.{is_too_short};
-ghost use Rattle.docket.specs.InAgreement.{three};
-ghost use Rattle.docket.specs.Lent.{held, owned};
+ghost use Rattle.docket.specs.Buffers.{buffers_of, held, owned};
 
 use std::alloc::{AllocError, Global};
 
@@ -37,7 +36,7 @@ pub struct OwnBuffers {
 impl OwnBuffers {
     // Buffers with so many zeros each.
     pub fn new(heap: Global, count: usize) -> Result<OwnBuffers, AllocError>
-        ensures { IfOk result (λ b. owned b ≡ three (replicate count 0) (replicate count 0) (replicate count 0)) }
+        ensures { IfOk result (λ b. owned b ≡ buffers_of (replicate count 0) (replicate count 0) (replicate count 0)) }
     {
         Ok(OwnBuffers {
             ranks: vec![in heap; 0u16; count]?,

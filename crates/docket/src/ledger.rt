@@ -1,7 +1,7 @@
 // The ledger: all of a docket but the holder.
 ghost use Rattle.std.specs.Prelude.{ℕ, take};
 ghost use Rattle.giving.specs.Lists.{Once};
-ghost use Rattle.docket.specs.Kept.{Full, Few, Known, Flagged, Awaits, numbers_in};
+ghost use Rattle.docket.specs.Kept.{ArrayLengths, CountsFit, StepsAreOperations, Flagged, Awaits, numbers_in};
 
 use crate::entry::Entry;
 use crate::ledger::awaited::Awaited;
@@ -23,9 +23,9 @@ pub struct Ledger {
     pub steps: [Step; 1024],
     pub placed: u16,
     pub awaited: Awaited,
-    ghost full: { Full entries steps },
-    ghost few: { Few count placed },
-    ghost known: { Known count (numbers_in steps) placed },
+    ghost lengths: { ArrayLengths entries steps },
+    ghost counts_fit: { CountsFit count placed },
+    ghost known: { StepsAreOperations count (numbers_in steps) placed },
     ghost once: { Once (take placed (numbers_in steps)) },
     ghost flagged: { Flagged entries count (numbers_in steps) placed },
     ghost ends: { Awaits awaited.least count entries },

@@ -1,4 +1,5 @@
 pub mod Runs
 pub mod Grants
+pub mod Numbers
 pub mod Traces
 pub mod TrueTraces

@@ -5,7 +5,7 @@ use Rattle.order.specs.declared.operation.Paired.{Paired}
 use Rattle.calls.specs.declared.certificate.Certificate.{Certificate}
 use Rattle.calls.specs.declared.fault.DocketFault.{DocketFault}
 use Rattle.calls.specs.Rules.{Run, run_of, Buffers, certify_answer, written}
-use Rattle.calls.proofs.Turns.{Outcome, outcome}
+use Rattle.calls.proofs.RunsAndLifts.{Outcome, outcome}
 use Rattle.holder.specs.declared.holder.Holder.{Ghosts}
 use Rattle.docket.specs.declared.docket.Docket.{Docket}
 use Rattle.docket.specs.Agreed.{ops_in, steps_in, bound_in, running, certifying, writing}

@@ -1,5 +1,5 @@
 -- A certificate is granted exactly to the bytes of a true trace.
-use Rattle.std.proofs.Common.{◌≡◌, ℕ, ◌<◌, true, false, ◌⊎◌, List, length, is_ok, Ok, Err, Result, sym, refl, ap, ◌∙◌, subst, inl, inr, arith, rules}
+use Rattle.std.proofs.Common.{◌≡◌, ℕ, ◌<◌, true, false, List, length, is_ok, IfOk, Ok, Err, Result, sym, refl, ap, ◌∙◌, subst, inl, inr, arith, rules}
 use lib.ListN.{length-map}
 use Rattle.item.specs.declared.item.Item.{Ghosts}
 use Rattle.item.specs.Items.{Lawful}
@@ -10,15 +10,15 @@ use Rattle.record.specs.Bytes.{Bytes, bytes_of_number}
 use Rattle.trace.specs.Reading.{Outcome, reading}
 use Rattle.trace.specs.Reading.Outcome.{unread, refused, accepted}
 use Rattle.trace.proofs.Readings.{reading_back, reading_there}
+use Rattle.refusal.specs.declared.Refusal.{Refusal}
 use Rattle.order.specs.Orders.{TrueOrder}
 use Rattle.calls.specs.declared.certificate.Certificate.{Certificate}
+use Rattle.calls.specs.Meanings.{Granted}
 use Rattle.calls.specs.Rules.{Buffers, is_too_short}
 use Rattle.docket.specs.Pairs.{paired_all, paired_of}
-use Rattle.examination.specs.declared.examining.ExamineFault.{ExamineFault}
-use Rattle.examination.specs.declared.examining.ExamineFault.TheVariants.{Refused, NoMemory}
 use Rattle.examination.specs.Kinds.{seat_of}
-use Rattle.examination.specs.Traces.{Examined, examining, type_of, Comes, TrueTrace, TrueTraceOfEither, count_of}
-use Rattle.examination.proofs.Grants.{granted_is_true, true_is_granted}
+use Rattle.examination.specs.Traces.{examining, type_of, TrueTrace, TrueTraceOfEither, count_of, Certified, CertifiedOfEither}
+use Rattle.examination.proofs.Grants.{granted_is_true, true_is_granted, certificate_is_true}
 
 pub lawful_tickets : Lawful ticket_items
 lawful_tickets = record { coded = search rules; small = search rules; there = search rules; back = search rules }
@@ -84,36 +84,46 @@ module _ (bs : List ℕ) (P : TrueTraceOfEither bs → Type 0) where
   tickets_alone other f (inl h) = f h
   tickets_alone other f (inr h) = absurd (other (type_of_true stamp_items (omega arith) bs h))
 
--- an answer is a certificate exactly where the examination grants one, unless memory was wanting
-module _ (x : Examined) (b w : Buffers) where
-  ok_examined : (r : Result Certificate ExamineFault) → Comes x b r w → is_ok r ≡ true → is_ok x.answer ≡ true
-  ok_examined (Ok c) h e = ap is_ok h.0
-  ok_examined (Err (Refused f)) h e = absurd (cc)
-  ok_examined (Err NoMemory) h e = absurd (cc)
-
-  examined_ok : (r : Result Certificate ExamineFault) → Comes x b r w → is_ok x.answer ≡ true → (is_ok r ≡ true) ⊎ (r ≡ Err NoMemory)
-  examined_ok (Ok c) h e = inl refl
-  examined_ok (Err (Refused f)) h e = let q : is_ok x.answer ≡ false = ap is_ok h.0 in absurd (cc)
-  examined_ok (Err NoMemory) h e = inr refl
-
-module _ (bs : List ℕ) (bytes : Bytes bs) (b w : Buffers) (r : Result Certificate ExamineFault) where
+-- an answer that is the examination's is a certificate exactly for the bytes of a true trace
+module _ (bs : List ℕ) (bytes : Bytes bs) (b : Buffers) (r : Result Certificate Refusal) where
   abbrev Long : TrueTraceOfEither bs → Type 0
   Long h = is_too_short (count_of h) b ≡ false
 
-  pub stamps_exactly : type_of bs ≡ 1 → Comes (examining stamp_items b (reading stamp_items 1024 bs)) b r w →
-      (is_ok r ≡ true → TrueTraceOfEither bs) × ((h : TrueTraceOfEither bs) → Long h → (is_ok r ≡ true) ⊎ (r ≡ Err NoMemory))
-  stamps_exactly one comes =
-      let o = reading stamp_items 1024 bs in
-      let x = examining stamp_items b o in (
-        λ e. inr (true_of_outcome stamp_items lawful_stamps bs bytes (granted_true stamp_items b o (ok_examined x b w r comes e))),
-        stamps_alone bs (λ h. Long h → (is_ok r ≡ true) ⊎ (r ≡ Err NoMemory)) one (λ h l. examined_ok x b w r comes (true_granted stamp_items lawful_stamps bs b h l)),
+  pub stamps_exactly : type_of bs ≡ 1 → r ≡ (examining stamp_items b (reading stamp_items 1024 bs)).answer →
+      (is_ok r ≡ true → TrueTraceOfEither bs) × ((h : TrueTraceOfEither bs) → Long h → is_ok r ≡ true)
+  stamps_exactly one e =
+      let o = reading stamp_items 1024 bs in (
+        λ ok. inr (true_of_outcome stamp_items lawful_stamps bs bytes (granted_true stamp_items b o (sym (ap is_ok e) ∙ ok))),
+        stamps_alone bs (λ h. Long h → is_ok r ≡ true) one (λ h l. ap is_ok e ∙ true_granted stamp_items lawful_stamps bs b h l),
       )
 
-  pub tickets_exactly : (type_of bs ≡ 1 → ⊥) → Comes (examining ticket_items b (reading ticket_items 1024 bs)) b r w →
-      (is_ok r ≡ true → TrueTraceOfEither bs) × ((h : TrueTraceOfEither bs) → Long h → (is_ok r ≡ true) ⊎ (r ≡ Err NoMemory))
-  tickets_exactly other comes =
-      let o = reading ticket_items 1024 bs in
-      let x = examining ticket_items b o in (
-        λ e. inl (true_of_outcome ticket_items lawful_tickets bs bytes (granted_true ticket_items b o (ok_examined x b w r comes e))),
-        tickets_alone bs (λ h. Long h → (is_ok r ≡ true) ⊎ (r ≡ Err NoMemory)) other (λ h l. examined_ok x b w r comes (true_granted ticket_items lawful_tickets bs b h l)),
+  pub tickets_exactly : (type_of bs ≡ 1 → ⊥) → r ≡ (examining ticket_items b (reading ticket_items 1024 bs)).answer →
+      (is_ok r ≡ true → TrueTraceOfEither bs) × ((h : TrueTraceOfEither bs) → Long h → is_ok r ≡ true)
+  tickets_exactly other e =
+      let o = reading ticket_items 1024 bs in (
+        λ ok. inl (true_of_outcome ticket_items lawful_tickets bs bytes (granted_true ticket_items b o (sym (ap is_ok e) ∙ ok))),
+        tickets_alone bs (λ h. Long h → is_ok r ≡ true) other (λ h l. ap is_ok e ∙ true_granted ticket_items lawful_tickets bs b h l),
       )
+
+module _ (bs : List ℕ) (bytes : Bytes bs) (b w : Buffers) where
+  module _ {I : Type 0} (t : Ghosts I) (law : Lawful t) where
+    certified : (o : Outcome I) → reading t 1024 bs ≡ o → (c : Certificate) → (examining t b o).answer ≡ Ok c → w ≡ (examining t b o).buffers → Certified t bs b c w
+    certified (unread e) r c h v = absurd (cc)
+    certified (refused os i e) r c h v = absurd (cc)
+    certified (accepted a) r c h v =
+        let right = reading_back t law 1024 bs a bytes r in
+        let seat = seat_of a.kind in
+        let ops = paired_all t.number a.ops in
+        let g = subst (λ z. Granted seat ops a.k a.order b c z) (sym v) (certificate_is_true seat ops a.k a.order b c h) in
+        record { trace = record { contents = a; sound = right.sound; bytes = right.bytes; order = g.order }; granted = g }
+
+  -- what a certificate says is true of the trace
+  pub stamps_certified : (r : Result Certificate Refusal) → r ≡ (examining stamp_items b (reading stamp_items 1024 bs)).answer → w ≡ (examining stamp_items b (reading stamp_items 1024 bs)).buffers →
+      IfOk r (λ c. CertifiedOfEither bs b c w)
+  stamps_certified (Ok c) e v = inr (certified stamp_items lawful_stamps (reading stamp_items 1024 bs) refl c (sym e) v)
+  stamps_certified (Err f) e v = tt
+
+  pub tickets_certified : (r : Result Certificate Refusal) → r ≡ (examining ticket_items b (reading ticket_items 1024 bs)).answer → w ≡ (examining ticket_items b (reading ticket_items 1024 bs)).buffers →
+      IfOk r (λ c. CertifiedOfEither bs b c w)
+  tickets_certified (Ok c) e v = inl (certified ticket_items lawful_tickets (reading ticket_items 1024 bs) refl c (sym e) v)
+  tickets_certified (Err f) e v = tt

@@ -23,6 +23,7 @@ module _ (seat : SeatRule) (ops : List Paired) (k : ℕ) (p : List ℕ) (b : Buf
   abbrev pub order_outcome : Result Certificate DocketFault
   order_outcome = unless_stopped (run_of seat ops k [] 0 p).stopped (certify_answer seat ops p b)
 
+  -- the same with a refusal by its layer and numbers
   abbrev pub order_answer : Result Certificate Refusal
   order_answer = refused_as order_outcome
 

@@ -1,5 +1,5 @@
 -- What the examination of a trace comes to, from its bytes to a certificate or the first rule that is broken.
-use Rattle.std.specs.Prelude.{◌≡◌, ℕ, ◌/◌, cond, ◌⊎◌, List, length, Ok, Err, Result, ◌==◌, slice_index}
+use Rattle.std.specs.Prelude.{◌≡◌, ℕ, ◌/◌, cond, ◌⊎◌, List, length, Err, Result, ◌==◌, slice_index}
 use Rattle.std.proofs.Common.{inl, inr}
 use Rattle.refusal.specs.declared.Refusal.{Refusal}
 use Rattle.item.specs.declared.item.Item.{Ghosts}
@@ -12,10 +12,9 @@ use Rattle.trace.specs.Reading.{Outcome, reading}
 use Rattle.trace.specs.Reading.Outcome.{unread, refused, accepted}
 use Rattle.order.specs.Orders.{TrueOrder}
 use Rattle.calls.specs.declared.certificate.Certificate.{Certificate}
+use Rattle.calls.specs.Meanings.{Granted}
 use Rattle.calls.specs.Rules.{Buffers}
 use Rattle.docket.specs.Pairs.{paired_all}
-use Rattle.examination.specs.declared.examining.ExamineFault.{ExamineFault}
-use Rattle.examination.specs.declared.examining.ExamineFault.TheVariants.{Refused, NoMemory}
 use Rattle.examination.specs.Kinds.{seat_of}
 use Rattle.examination.specs.Orders.{order_answer, order_written}
 
@@ -46,12 +45,6 @@ by_type bs stamps tickets = cond (type_of bs == 1) stamps tickets
 abbrev pub examination_of : List ℕ → Buffers → Examined
 examination_of bs b = by_type bs (examining stamp_items b (reading stamp_items 1024 bs)) (examining ticket_items b (reading ticket_items 1024 bs))
 
--- an answer, and the buffers that it leaves, are those of the examination, or memory was wanting and they are as before
-abbrev pub Comes : Examined → Buffers → Result Certificate ExamineFault → Buffers → Type 0
-Comes x before (Ok c) after = (x.answer ≡ Ok c) × (after ≡ x.buffers)
-Comes x before (Err (Refused f)) after = (x.answer ≡ Err f) × (after ≡ x.buffers)
-Comes x before (Err NoMemory) after = after ≡ before
-
 -- the bytes of a trace whose contents are sound, and whose order is a true order of its operations for its kind and its k
 pub record TrueTrace {I : Type 0} (t : Ghosts I) (bs : List ℕ) : Type 0 where
   pub contents : Contents I
@@ -67,3 +60,12 @@ TrueTraceOfEither bs = TrueTrace ticket_items bs ⊎ TrueTrace stamp_items bs
 abbrev pub count_of : {bs : List ℕ} → TrueTraceOfEither bs → ℕ
 count_of (inl h) = length h.contents.ops
 count_of (inr h) = length h.contents.ops
+
+-- a true trace, with the certificate c of its order, and the buffers b before it and w after it
+pub record Certified {I : Type 0} (t : Ghosts I) (bs : List ℕ) (b : Buffers) (c : Certificate) (w : Buffers) : Type 0 where
+  pub trace : TrueTrace t bs
+  pub granted : Granted (seat_of trace.contents.kind) (paired_all t.number trace.contents.ops) trace.contents.k trace.contents.order b c w
+
+-- of tickets or of stamps
+abbrev pub CertifiedOfEither : List ℕ → Buffers → Certificate → Buffers → Type 0
+CertifiedOfEither bs b c w = Certified ticket_items bs b c w ⊎ Certified stamp_items bs b c w

@@ -1,16 +1,15 @@
 // From the bytes of a trace to the certificate of its order.
-ghost use Rattle.std.specs.Prelude.{◌≡◌, true, false, ◌⊎◌, is_ok, Err, IfOk, vec_len, ◌==◌};
+ghost use Rattle.std.specs.Prelude.{◌≡◌, ◌≤◌, min, true, false, length, is_ok, IfOk, ◌==◌};
+ghost use Rattle.sheet.specs.declared.operation.Method.TheVariants.{FoundEmpty};
 ghost use Rattle.frame.specs.Kinds.{kind_number};
 ghost use Rattle.frame.specs.Orders.{order_of};
-ghost use Rattle.trace.specs.Faults.{read_refusal};
 ghost use Rattle.trace.specs.Reading.{reading};
 ghost use Rattle.calls.specs.Rules.{is_too_short};
 ghost use Rattle.docket.specs.Pairs.{sheet_ops};
-ghost use Rattle.docket.specs.Lent.{held, SameSlices};
-ghost use Rattle.examination.specs.declared.examining.ExamineFault.TheVariants.{Refused, NoMemory};
+ghost use Rattle.docket.specs.Buffers.{held, SameSlices};
 ghost use Rattle.examination.specs.Kinds.{seat_of};
 ghost use Rattle.examination.specs.Orders.{order_answer, order_written};
-ghost use Rattle.examination.specs.Traces.{examining, type_of, examination_of, Comes, TrueTraceOfEither, count_of};
+ghost use Rattle.examination.specs.Traces.{examining, type_of, examination_of, TrueTraceOfEither, count_of, CertifiedOfEither};
 
 use crate::kind::certify_of_kind;
 use crate::proposal::Proposal;
@@ -22,52 +21,19 @@ use item::ticket::Ticket;
 use refusal::Refusal;
 use sheet::operation::{Method, Operation};
 use sheet::sheet::Sheet;
-use std::alloc::{AllocError, Global};
-use trace::fault::ReadFault;
+use std::array;
 use trace::read::{Accepted, read};
 
-// Why there is no certificate.
-#[derive(Clone, Copy, PartialEq, Eq, Debug)]
-pub enum ExamineFault {
-    Refused(Refusal),
-    NoMemory,
-}
-
-impl From<AllocError> for ExamineFault {
-    ghost from_gives = { λ _ r. r ≡ NoMemory };
-
-    fn from(_fault: AllocError) -> ExamineFault {
-        ExamineFault::NoMemory
-    }
-}
-
-impl From<Refusal> for ExamineFault {
-    ghost from_gives = { λ e r. r ≡ Refused e };
-
-    fn from(refusal: Refusal) -> ExamineFault {
-        ExamineFault::Refused(refusal)
-    }
-}
-
-impl From<ReadFault> for ExamineFault {
-    ghost from_gives = { λ e r. r ≡ Refused (read_refusal e) };
-
-    fn from(fault: ReadFault) -> ExamineFault {
-        ExamineFault::Refused(fault.into())
-    }
-}
-
-// So many records, to be lent to a sheet. What they hold no rule decides.
-pub fn blank_records<I: Item>(heap: Global, count: usize) -> Result<Vec<Operation<I>>, AllocError>
-    ensures { IfOk result (λ v. vec_len v ≡ count) }
+// What a record of a sheet's memory holds before an operation is entered.
+pub fn blank<I: Item>() -> Operation<I>
+    ensures { result ≡ record { method = FoundEmpty; thread = 0; start = 0; end = 0 } }
 {
-    let blank = Operation {
+    Operation {
         method: Method::FoundEmpty,
         thread: 0,
         start: 0,
         end: 0,
-    };
-    vec![in heap; blank; count]
+    }
 }
 
 // Whether the header names stamps as its item type.
@@ -79,54 +45,51 @@ pub fn has_stamps(bytes: &[u8]) -> bool
 
 // Examines an accepted trace, whose operations are on the sheet.
 fn certify_accepted<I: Item>(
-    heap: Global,
     sheet: &Sheet<I>,
     accepted: &Accepted,
     buffers: &mut Buffers,
-) -> Result<Certificate, ExamineFault>
-    ensures comes { Comes (record { answer = order_answer (seat_of (kind_number accepted.now.kind)) (sheet_ops I.Item.number sheet.now) accepted.now.k (order_of accepted.now.order) (held buffers.old); buffers = order_written (seat_of (kind_number accepted.now.kind)) (sheet_ops I.Item.number sheet.now) accepted.now.k (order_of accepted.now.order) (held buffers.old) }) (held buffers.old) result (held buffers.new) }
+) -> Result<Certificate, Refusal>
+    requires few { length (order_of accepted.now.order) ≤ 1024 }
+    ensures answer { result ≡ order_answer (seat_of (kind_number accepted.now.kind)) (sheet_ops I.Item.number sheet.now) accepted.now.k (order_of accepted.now.order) (held buffers.old) }
+    ensures written { held buffers.new ≡ order_written (seat_of (kind_number accepted.now.kind)) (sheet_ops I.Item.number sheet.now) accepted.now.k (order_of accepted.now.order) (held buffers.old) }
     ensures lenders { SameSlices buffers.old buffers.new }
 {
-    let order = accepted.order.numbers(heap)?;
+    let numbers: [u16; 1024] = array::from_fn(|i| accepted.order.at(i).unwrap_or(0));
     let proposal = Proposal {
         k: accepted.k,
-        order: order.as_slice(),
+        order: &numbers[..accepted.order.len()],
     };
-    let certificate = certify_of_kind(sheet, accepted.kind, &proposal, buffers)?;
-    Ok(certificate)
+    certify_of_kind(sheet, accepted.kind, &proposal, buffers)
 }
 
-// Examines a trace of that item type.
+// Examines a trace of that item type, whose operations go into the records.
 fn certify_of<I: Item>(
-    heap: Global,
     bytes: &[u8],
+    records: &mut [Operation<I>],
     buffers: &mut Buffers,
-) -> Result<Certificate, ExamineFault>
-    ensures comes { Comes (examining I.Item (held buffers.old) (reading I.Item 1024 bytes.now)) (held buffers.old) result (held buffers.new) }
+) -> Result<Certificate, Refusal>
+    ensures answer { result ≡ (examining I.Item (held buffers.old) (reading I.Item (min (length records.old) 1024) bytes.now)).answer }
+    ensures written { held buffers.new ≡ (examining I.Item (held buffers.old) (reading I.Item (min (length records.old) 1024) bytes.now)).buffers }
     ensures lenders { SameSlices buffers.old buffers.new }
 {
-    let mut records = blank_records::<I>(heap, 1024)?;
-    let mut sheet = Sheet::new(records.as_mut_slice());
+    let mut sheet = Sheet::new(records);
     let accepted = read(bytes, &mut sheet)?;
-    certify_accepted(heap, &sheet, &accepted, buffers)
+    certify_accepted(&sheet, &accepted, buffers)
 }
 
-// Reads a trace and certifies its order into the buffers. Refused, or for want of memory, it leaves them as they were. A
-// certificate is granted only to the bytes of a true trace, of tickets or of stamps, and, with buffers long enough and unless
-// memory was wanting, to those of every true trace.
-pub fn certify_trace(
-    heap: Global,
-    bytes: &[u8],
-    buffers: &mut Buffers,
-) -> Result<Certificate, ExamineFault>
-    ensures comes { Comes (examination_of bytes.now (held buffers.old)) (held buffers.old) result (held buffers.new) }
+// Reads a trace and certifies its order into the buffers. Refused, it leaves them as they were. A certificate is granted only
+// to the bytes of a true trace, of tickets or of stamps, and, with buffers long enough, to those of every true trace.
+pub fn certify_trace(bytes: &[u8], buffers: &mut Buffers) -> Result<Certificate, Refusal>
+    ensures answer { result ≡ (examination_of bytes.now (held buffers.old)).answer }
+    ensures written { held buffers.new ≡ (examination_of bytes.now (held buffers.old)).buffers }
     ensures lenders { SameSlices buffers.old buffers.new }
-    ensures granted_exactly_when_true_order { (is_ok result ≡ true → TrueTraceOfEither bytes.now) × ((h : TrueTraceOfEither bytes.now) → is_too_short (count_of h) (held buffers.old) ≡ false → (is_ok result ≡ true) ⊎ (result ≡ Err NoMemory)) }
+    ensures granted_exactly_when_true_order { (is_ok result ≡ true → TrueTraceOfEither bytes.now) × ((h : TrueTraceOfEither bytes.now) → is_too_short (count_of h) (held buffers.old) ≡ false → is_ok result ≡ true) }
+    ensures granted_certificates_are_true { IfOk result (λ c. CertifiedOfEither bytes.now (held buffers.old) c (held buffers.new)) }
 {
     // Kept (no plainer): an item type is chosen by a type argument, and a trait of all that is done by item type says no less.
     if has_stamps(bytes) {
-        certify_of::<Stamp>(heap, bytes, buffers)
+        certify_of::<Stamp>(bytes, &mut [blank(); 1024], buffers)
     } else {
-        certify_of::<Ticket>(heap, bytes, buffers)
+        certify_of::<Ticket>(bytes, &mut [blank(); 1024], buffers)
     }
 }

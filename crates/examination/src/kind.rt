@@ -1,7 +1,7 @@
 // The strict object of each kind.
 ghost use Rattle.std.specs.Prelude.{◌≡◌};
 ghost use Rattle.frame.specs.Kinds.{kind_number};
-ghost use Rattle.docket.specs.Lent.{held, SameSlices};
+ghost use Rattle.docket.specs.Buffers.{held, SameSlices};
 ghost use Rattle.docket.specs.Pairs.{sheet_ops};
 ghost use Rattle.examination.specs.Kinds.{any_kind, seat_of};
 ghost use Rattle.examination.specs.Orders.{order_answer, order_written};

@@ -6,13 +6,13 @@ use report::report::report_trace;
 use std::io::{Read, Write};
 use std::process::ExitCode;
 
-// The longest trace has 8 + 26 * 1,024 bytes; one more shows that an input is longer.
-const LIMIT: u64 = 26_633;
+// How many bytes the longest trace has: 8 + 26 * 1,024. One more shows that an input is longer.
+const LONGEST: u64 = 26_632;
 
 // Whether a certificate is granted.
 fn examine(rt: &HostRuntime) -> anyhow::Result<bool> {
     let mut bytes = Vec::new(rt.alloc());
-    rt.stdin().take(LIMIT).read_to_end(&mut bytes).context(
+    rt.stdin().take(LONGEST + 1).read_to_end(&mut bytes).context(
         "standard input cannot be read: give the trace there, as in ./examine < FILE",
     )?;
     let report = report_trace(rt.alloc(), bytes.as_slice()).map_err(|_| anyhow!(

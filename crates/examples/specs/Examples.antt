@@ -27,6 +27,7 @@ StopsAfter seat ops k order n e = answers_for seat ops k [] (run order ∷ []) �
 abbrev pub as_numbered : List ℕ
 as_numbered = 0 ∷ 1 ∷ 2 ∷ 3 ∷ 4 ∷ 5 ∷ []
 
+-- the examples, each of them a fact
 pub record WorkedExamples : Type 0 where
   -- on a queue, the take of the last item passes over the two before it
   pub queue_passes_two : Certified queue_seat last_taken_first 2 as_numbered

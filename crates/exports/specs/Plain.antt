@@ -1,11 +1,10 @@
 -- What callers in other languages get: plain numbers, and text over the front of their memory.
 use Rattle.std.specs.Prelude.{◌≡◌, ℕ, ◌<◌, ◌⊎◌, cond, List, length, Ok, Err, Result, nat_le}
 use Rattle.giving.specs.Fronts.{over}
+use Rattle.refusal.specs.declared.Refusal.{Refusal}
 use Rattle.refusal.specs.declared.Layer.{Layer}
 use Rattle.refusal.specs.declared.Layer.TheVariants.{Frame, Record, Item, Sheet, Docket, Holder}
 use Rattle.calls.specs.declared.certificate.Certificate.{Certificate}
-use Rattle.examination.specs.declared.examining.ExamineFault.{ExamineFault}
-use Rattle.examination.specs.declared.examining.ExamineFault.TheVariants.{Refused, NoMemory}
 use Rattle.exports.specs.declared.PlainOutcome.{PlainOutcome}
 
 -- the layers, numbered from the bytes upward
@@ -18,9 +17,9 @@ number_of_layer Docket = 5
 number_of_layer Holder = 6
 
 -- what came of an examination, as plain numbers: those that do not apply are 0
-abbrev pub plain : Result Certificate ExamineFault → PlainOutcome
+abbrev pub plain : Result Certificate Refusal → PlainOutcome
 plain (Ok c) = record { status = 0; layer = 0; number = 0; place = 0; detail = 0; total = c.total; largest = c.largest; first = c.first }
-plain (Err (Refused f)) = record {
+plain (Err f) = record {
   status = 1;
   layer = number_of_layer f.layer;
   number = f.number;
@@ -30,7 +29,10 @@ plain (Err (Refused f)) = record {
   largest = 0;
   first = 0;
 }
-plain (Err NoMemory) = record { status = 2; layer = 0; number = 0; place = 0; detail = 0; total = 0; largest = 0; first = 0 }
+
+-- the certificate that an outcome says
+abbrev pub certificate_in : PlainOutcome → Certificate
+certificate_in o = record { total = o.total; largest = o.largest; first = o.first }
 
 -- memory with a text over its front, or as it was where the text does not fit
 abbrev pub with_text : List ℕ → List ℕ → List ℕ

@@ -1,21 +1,19 @@
 // What callers in Rust and C can link: bytes in memory, examined.
 #![tactic(auto)]
 
-ghost use Rattle.std.specs.Prelude.{◌≡◌, false, ◌⊎◌, length, Result};
-ghost use Rattle.calls.specs.declared.certificate.Certificate.{Certificate};
+ghost use Rattle.std.specs.Prelude.{◌≡◌, false, length};
 ghost use Rattle.calls.specs.Rules.{is_too_short};
-ghost use Rattle.docket.specs.InAgreement.{three};
-ghost use Rattle.examination.specs.declared.examining.ExamineFault.{ExamineFault};
-ghost use Rattle.examination.specs.Traces.{examination_of, Comes, TrueTraceOfEither, count_of};
+ghost use Rattle.docket.specs.Buffers.{buffers_of};
+ghost use Rattle.examination.specs.Traces.{examination_of, TrueTraceOfEither, count_of, CertifiedOfEither};
 ghost use Rattle.report.specs.Reports.{report_on};
 ghost use Rattle.comparison.specs.Cases.{case_answer};
-ghost use Rattle.exports.specs.Plain.{number_of_layer, plain, with_text, WrittenOrNone};
+ghost use Rattle.exports.specs.Plain.{number_of_layer, plain, certificate_in, with_text, WrittenOrNone};
 
 use calls::certificate::Certificate;
 use comparison::case::answer_case;
 use docket::buffers::Buffers;
-use examination::examining::{ExamineFault, certify_trace};
-use refusal::Layer;
+use examination::examining::certify_trace;
+use refusal::{Layer, Refusal};
 use report::report::report_trace;
 use std::alloc::Global;
 
@@ -24,7 +22,7 @@ use std::alloc::Global;
 #[derive(Clone, Copy, Default)]
 #[repr(C)]
 pub struct PlainOutcome {
-    // 0 where a certificate is granted, 1 where the trace or its order is refused, 2 where there was not enough memory
+    // 0 where a certificate is granted, 1 where the trace or its order is refused, or a buffer is too short
     pub status: u8,
     // the refusal: its layer (1 frame, 2 record, 3 item, 4 sheet, 5 docket, 6 holder), number, place and detail
     pub layer: u8,
@@ -53,10 +51,10 @@ fn layer_number(layer: Layer) -> u8
 }
 
 // Those numbers that do not apply are 0.
-impl From<Result<Certificate, ExamineFault>> for PlainOutcome {
+impl From<Result<Certificate, Refusal>> for PlainOutcome {
     ghost from_gives = { λ answer outcome. outcome ≡ plain answer };
 
-    fn from(answer: Result<Certificate, ExamineFault>) -> PlainOutcome {
+    fn from(answer: Result<Certificate, Refusal>) -> PlainOutcome {
         match answer {
             Ok(certificate) => PlainOutcome {
                 total: certificate.total,
@@ -64,16 +62,12 @@ impl From<Result<Certificate, ExamineFault>> for PlainOutcome {
                 first: certificate.first,
                 ..PlainOutcome::default()
             },
-            Err(ExamineFault::Refused(refusal)) => PlainOutcome {
+            Err(refusal) => PlainOutcome {
                 status: 1,
                 layer: layer_number(refusal.layer),
                 number: refusal.number,
                 place: refusal.place,
                 detail: refusal.detail,
-                ..PlainOutcome::default()
-            },
-            Err(ExamineFault::NoMemory) => PlainOutcome {
-                status: 2,
                 ..PlainOutcome::default()
             },
         }
@@ -93,25 +87,26 @@ fn write_text(text: &[u8], memory: &mut [u8]) -> usize
 
 // Examines a trace: the certificate or the refusal as plain numbers, with rank errors, instants and latenesses over the
 // front of the buffers. Each buffer needs an entry for each operation, 1,024 at most. The status is 0 only for a true trace,
-// and, with such buffers, 0 or 2 for every true trace.
+// and, with such buffers, for every true trace.
 #[unsafe(no_mangle)]
 pub extern "C" fn examiner_certify(
-    heap: Global,
     bytes: &[u8],
     ranks: &mut [u16],
     instants: &mut [u64],
     latenesses: &mut [u16],
     outcome: &mut PlainOutcome,
 )
-    ensures comes { (r : Result Certificate ExamineFault) × Comes (examination_of bytes.now (three ranks.old instants.old latenesses.old)) (three ranks.old instants.old latenesses.old) r (three ranks.new instants.new latenesses.new) × (outcome.new ≡ plain r) }
-    ensures granted_exactly_when_true_order { (outcome.new.status ≡ 0 → TrueTraceOfEither bytes.now) × ((h : TrueTraceOfEither bytes.now) → is_too_short (count_of h) (three ranks.old instants.old latenesses.old) ≡ false → (outcome.new.status ≡ 0) ⊎ (outcome.new.status ≡ 2)) }
+    ensures outcome { outcome.new ≡ plain (examination_of bytes.now (buffers_of ranks.old instants.old latenesses.old)).answer }
+    ensures written { buffers_of ranks.new instants.new latenesses.new ≡ (examination_of bytes.now (buffers_of ranks.old instants.old latenesses.old)).buffers }
+    ensures granted_exactly_when_true_order { (outcome.new.status ≡ 0 → TrueTraceOfEither bytes.now) × ((h : TrueTraceOfEither bytes.now) → is_too_short (count_of h) (buffers_of ranks.old instants.old latenesses.old) ≡ false → outcome.new.status ≡ 0) }
+    ensures granted_certificates_are_true { outcome.new.status ≡ 0 → CertifiedOfEither bytes.now (buffers_of ranks.old instants.old latenesses.old) (certificate_in outcome.new) (buffers_of ranks.new instants.new latenesses.new) }
 {
     let mut buffers = Buffers {
         ranks,
         instants,
         latenesses,
     };
-    *outcome = PlainOutcome::from(certify_trace(heap, bytes, &mut buffers));
+    *outcome = PlainOutcome::from(certify_trace(bytes, &mut buffers));
 }
 
 // Writes the text that is printed of a trace over the front of the memory, where it fits, and answers how long it is;

@@ -9,6 +9,7 @@ use Rattle.frame.specs.declared.fault.FrameFault.TheVariants.{Short, Version, Ki
 abbrev pub of_frame : ℕ → Refusal
 of_frame number = record { layer = Frame; number = number; place = 0; detail = 0 }
 
+-- numbered in the order of the checks
 abbrev pub frame_refusal : FrameFault → Refusal
 frame_refusal Short = of_frame 1
 frame_refusal Version = of_frame 2

@@ -5,6 +5,7 @@ use Rattle.frame.specs.declared.fault.FrameFault.TheVariants as fault
 use Rattle.frame.specs.declared.kind.Kind.{Kind}
 use Rattle.frame.specs.declared.kind.Kind.TheVariants.{Queue, Stack, CountingQueue}
 
+-- the number by which a header says a kind
 abbrev pub kind_number : Kind → ℕ
 kind_number Queue = 0
 kind_number Stack = 1

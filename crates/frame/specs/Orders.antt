@@ -9,6 +9,7 @@ abbrev pub numbers_of : ℕ → List ℕ → List ℕ
 numbers_of zero bs = []
 numbers_of (suc n) bs = number_from_digits 256 (take 2 bs) ∷ numbers_of n (drop 2 bs)
 
+-- all the numbers of an order; an odd byte at the end counts for nothing
 abbrev pub order_of : Order → List ℕ
 order_of o = numbers_of (length o.bytes.now / 2) o.bytes.now
 

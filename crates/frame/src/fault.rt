@@ -1,3 +1,4 @@
+// What is wrong with a header or with the length of a trace.
 ghost use Rattle.std.specs.Prelude.{◌≡◌};
 ghost use Rattle.frame.specs.Faults.{frame_refusal};
 

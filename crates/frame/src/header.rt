@@ -1,3 +1,4 @@
+// The first 8 bytes of a trace: item type, kind, how many operations, and k.
 ghost use Rattle.std.specs.Prelude.{◌≡◌, ℕ, ◌+◌, ◌*◌, ◌≤◌, length, IfOk};
 ghost use Rattle.frame.specs.Headers.{frame_of};
 

@@ -1,3 +1,4 @@
+// Which strict object a trace is examined by.
 ghost use Rattle.std.specs.Prelude.{◌≡◌};
 ghost use Rattle.frame.specs.Kinds.{kind_number, kind_named};
 

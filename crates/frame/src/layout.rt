@@ -1,3 +1,4 @@
+// How many bytes the parts of a trace have.
 use record::encoding::RECORD_LEN;
 
 // The bytes of a header.

@@ -1,3 +1,4 @@
+// The proposed order: two bytes for each number.
 ghost use Rattle.std.specs.Prelude.{◌≡◌, length, map, IfOk};
 ghost use Rattle.std.specs.Int.{from_be_bytes, w16};
 ghost use Rattle.std.specs.List.{slice_get};

@@ -1,3 +1,4 @@
+// The header, the records and the order among the bytes of a trace.
 ghost use Rattle.std.specs.Prelude.{◌≡◌, if◌then◌else◌, Some, None, nat_lt};
 ghost use Rattle.std.specs.Option.{option_map};
 ghost use Rattle.frame.specs.Layout.{record_count, record_at, records_in};

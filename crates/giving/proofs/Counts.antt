@@ -10,15 +10,22 @@ pub times_append : (a : ℕ) (xs ys : List ℕ) → times a (xs ++ ys) ≡ times
 times_append a [] ys = omega arith
 times_append a (x ∷ xs) ys = omega (arith, times_append a xs ys)
 
+-- one more code in front
+pub times_here : (a x : ℕ) (xs : List ℕ) → a ≡ x → times a (x ∷ xs) ≡ 1 + times a xs
+times_here a x xs e = omega (arith, cond-true {A = ℕ} (eqb a x) 1 0 (eq-eqb a x e))
+
+pub times_there : (a x : ℕ) (xs : List ℕ) → (a ≡ x → ⊥) → times a (x ∷ xs) ≡ times a xs
+times_there a x xs ne = omega (arith, cond-false {A = ℕ} (eqb a x) 1 0 (ne_eqb a x ne))
+
 -- one more code at the end
 pub times_push : (y x : ℕ) (p : List ℕ) → times y (p ++ x ∷ []) ≡ times y p + cond (eqb y x) 1 0
 times_push y x p = omega (arith, times_append y p (x ∷ []))
 
 pub times_self : (x : ℕ) (p : List ℕ) → times x (p ++ x ∷ []) ≡ times x p + 1
-times_self x p = omega (arith, times_push x x p, cond-true {A = ℕ} (eqb x x) 1 0 (eq-eqb x x refl))
+times_self x p = omega (arith, times_append x p (x ∷ []), times_here x x [] refl)
 
 pub times_other : (y x : ℕ) (p : List ℕ) → (y ≡ x → ⊥) → times y (p ++ x ∷ []) ≡ times y p
-times_other y x p ne = omega (arith, times_push y x p, cond-false {A = ℕ} (eqb y x) 1 0 (ne_eqb y x ne))
+times_other y x p ne = omega (arith, times_append y p (x ∷ []), times_there y x [] ne)
 
 pub times_insert : (a x i : ℕ) (L : List ℕ) → times a (insert L i x) ≡ cond (eqb a x) 1 0 + times a L
 times_insert a x i L = omega (arith, times_append a (take i L) (x ∷ drop i L), times_append a (take i L) (drop i L), ap (times a) (take-append-drop i L))

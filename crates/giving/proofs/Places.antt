@@ -4,7 +4,7 @@ use Rattle.std.specs.List.{insert, remove}
 use Rattle.std.proofs.lemmas.List.{reverse-append, length-reverse, get_or-reverse, append-nil}
 use Rattle.std.proofs.lemmas.Bool.Decides.{nat_tests}
 use Rattle.giving.specs.Lists.{times, place, stands, without, Once}
-use Rattle.giving.specs.Laws.{KeptBeside}
+use Rattle.giving.specs.Laws.{OrderAfterChange}
 use Rattle.giving.proofs.Counts.{times_reverse, times_at, once_fewer}
 
 pub place_le : (a : ℕ) (L : List ℕ) → place a L ≤ length L
@@ -97,5 +97,5 @@ module _ (a b c : ℕ) (ac : a ≡ c → ⊥) (bc : b ≡ c → ⊥) where
   before_inserted (suc s) (x ∷ xs) = grind (arith, nat_tests, before_inserted s xs)
 
 -- which of two codes stands first stays so when a third comes in or leaves
-pub kept_beside : (a b : ℕ) (L : List ℕ) (r : Bool) → r ≡ ltb (place a L) (place b L) → KeptBeside a b L r
-kept_beside a b L r e = record { taken = λ c p q. before_without a b c p q L ∙ sym e; put_in = λ c s p q. before_inserted a b c p q s L ∙ sym e }
+pub order_after_change : (a b : ℕ) (L : List ℕ) (r : Bool) → r ≡ ltb (place a L) (place b L) → OrderAfterChange a b L r
+order_after_change a b L r e = record { taken = λ c p q. before_without a b c p q L ∙ sym e; put_in = λ c s p q. before_inserted a b c p q s L ∙ sym e }

@@ -5,7 +5,7 @@
 ghost use Rattle.std.specs.Prelude.{◌≡◌, ℕ, ◌<◌, ◌≤◌, length, nat_lt, slice_index, IfSome, IsNone};
 ghost use Rattle.std.specs.List.{insert};
 ghost use Rattle.giving.specs.Lists.{times, place, first_place, stands, Once};
-ghost use Rattle.giving.specs.Laws.{KeptBeside, TimesBeside};
+ghost use Rattle.giving.specs.Laws.{OrderAfterChange, TimesAfterChange};
 
 // The first place of a code, if it stands in the list. A code that does not stand in it and is then put in has its seat
 // as its place.
@@ -24,7 +24,7 @@ pub fn place_of(code: u16, list: &[u16]) -> Option<usize>
 pub fn times_of(code: u16, list: &[u16]) -> usize
     ensures value { result ≡ times code list.now }
     ensures some { nat_lt 0 result ≡ stands code list.now }
-    ensures beside { TimesBeside code list.now result }
+    ensures changed { TimesAfterChange code list.now result }
 {
     list.iter().filter(|held| code == **held).count()
 }
@@ -32,7 +32,7 @@ pub fn times_of(code: u16, list: &[u16]) -> usize
 // Whether one code stands before another. A third code that leaves, or comes in at any seat, changes nothing of it.
 pub fn stands_before(one: u16, other: u16, list: &[u16]) -> bool
     ensures value { result ≡ nat_lt (place one list.now) (place other list.now) }
-    ensures kept { KeptBeside one other list.now result }
+    ensures kept { OrderAfterChange one other list.now result }
 {
     match (place_of(one, list), place_of(other, list)) {
         (Some(i), Some(j)) => i < j,

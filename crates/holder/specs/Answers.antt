@@ -16,9 +16,11 @@ pub record SoundGiving (L : List ℕ) (n : ℕ) : Type 0 where
 abbrev pub add_answer : List ℕ → ℕ → ℕ → Result (Unit {0}) HolderFault
 add_answer L n c = cond (nat_le 1024 c) (Err CodeTooLarge) (cond (stands c L) (Err AlreadyHeld) (cond (nat_le 1024 n) (Err AddsUsedUp) (Ok tt)))
 
+-- the place of the code, or refused where it is not held
 abbrev pub rank_answer : List ℕ → ℕ → Result ℕ HolderFault
 rank_answer L c = cond (stands c L) (Ok (place c L)) (Err NotHeld)
 
+-- the code at the place, or refused where the giving list has none there
 abbrev pub at_answer : List ℕ → ℕ → Result ℕ HolderFault
 at_answer L p = cond (nat_lt p (length L)) (Ok (slice_index L p)) (Err NoSuchPlace)
 
@@ -26,5 +28,6 @@ at_answer L p = cond (nat_lt p (length L)) (Ok (slice_index L p)) (Err NoSuchPla
 abbrev pub front_over : List ℕ → List ℕ → List ℕ
 front_over L buffer = over (take (length buffer) L) buffer
 
+-- refused where the code is not held
 abbrev pub take_answer : List ℕ → ℕ → Result (Unit {0}) HolderFault
 take_answer L c = cond (stands c L) (Ok tt) (Err NotHeld)

@@ -5,6 +5,7 @@ use Rattle.refusal.specs.declared.Layer.TheVariants.{Holder}
 use Rattle.holder.specs.declared.fault.HolderFault.{HolderFault}
 use Rattle.holder.specs.declared.fault.HolderFault.TheVariants.{CodeTooLarge, AlreadyHeld, AddsUsedUp, NotHeld, NoSuchPlace}
 
+-- the number of each refusal
 abbrev pub fault_number : HolderFault → ℕ
 fault_number CodeTooLarge = 40
 fault_number AlreadyHeld = 41

@@ -11,6 +11,7 @@ use Rattle.holder.specs.Ends.{EndLaws}
 use Rattle.holder.specs.Kinds.{queue_given, queue_seat, stack_given, stack_seat}
 use Rattle.holder.specs.Rows.{row_list}
 
+-- given from the front, as a queue does
 pub front_laws : EndLaws queue_given queue_seat (λ n i. i)
 front_laws = record {
   seated = λ L c. omega arith;
@@ -23,6 +24,7 @@ front_laws = record {
   placed = λ L i h. (h, refl);
 }
 
+-- given from the back, as a stack does
 pub back_laws : EndLaws stack_given stack_seat (λ n i. n - 1 - i)
 back_laws = record {
   seated = λ L c. omega arith;

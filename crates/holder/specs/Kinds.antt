@@ -9,9 +9,11 @@ use Rattle.holder.specs.Rows.{row_list}
 abbrev pub queue_given : List ℕ → List ℕ
 queue_given L = L
 
+-- that list of a queue as a program has it
 abbrev pub queue_list : Line Front → List ℕ
 queue_list q = queue_given (row_list q.row)
 
+-- the seat of a new code: behind the last
 abbrev pub queue_seat : SeatRule
 queue_seat L c = length L
 
@@ -19,5 +21,6 @@ queue_seat L c = length L
 abbrev pub stack_given : List ℕ → List ℕ
 stack_given L = reverse L
 
+-- the seat of a new code: before the first
 abbrev pub stack_seat : SeatRule
 stack_seat L c = 0

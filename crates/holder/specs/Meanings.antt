@@ -9,6 +9,7 @@ pub record Meaning : Type 0 where
   pub list : List ℕ
   pub count : ℕ
 
+-- of that list and that count
 abbrev pub meaning : List ℕ → ℕ → Meaning
 meaning L n = record { list = L; count = n }
 

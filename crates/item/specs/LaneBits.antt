@@ -11,6 +11,7 @@ bit_of n h = grind (arith, nat_tests)
 bit_small : (b : Bool) → bit b < 2
 bit_small b = grind (arith, nat_tests)
 
+-- a number below 64 is that of its lane
 pub number_of_lane : (n : ℕ) → n < 64 → lane_number (lane_of n) ≡ n
 number_of_lane n h =
     let a = bit_of (n % 2) (omega arith) in
@@ -25,6 +26,7 @@ number_of_lane n h =
     let t : n / 32 ≡ n / 16 / 2 = omega arith in
     omega arith
 
+-- a lane's number is below 64
 pub number_small : (l : Lane) → lane_number l < 64
 number_small l =
     let a = bit_small l.bit0 in
@@ -39,6 +41,7 @@ number_small l =
 split : (x y : Bool) (p q : ℕ) → 2 * p + bit x ≡ 2 * q + bit y → (x ≡ y) × (p ≡ q)
 split x y p q e = grind (arith, nat_tests)
 
+-- lanes of one number are one lane
 pub same_lane : (l m : Lane) → lane_number l ≡ lane_number m → l ≡ m
 same_lane l m same =
     let rest1 : Lane → ℕ = λ z. 16 * bit z.bit5 + 8 * bit z.bit4 + 4 * bit z.bit3 + 2 * bit z.bit2 + bit z.bit1 in
@@ -57,5 +60,6 @@ same_lane l m same =
     cc (a.0, b.0, k.0, d.0, e.0, f.0) in
     whole
 
+-- a lane is that of its number
 pub lane_of_number : (l : Lane) → lane_of (lane_number l) ≡ l
 lane_of_number l = same_lane (lane_of (lane_number l)) l (number_of_lane (lane_number l) (number_small l))

@@ -7,10 +7,12 @@ use Rattle.item.specs.declared.stamp.Stamp.{Stamp}
 use Rattle.item.specs.declared.stamp.Stamp.TheVariants.{Serial, InLane}
 use Rattle.item.specs.Lanes.{lane_number, lane_of}
 
+-- a serial is its own number; a lane with its count is in case 1
 abbrev pub stamp_number : Stamp → ℕ
 stamp_number (Serial serial) = serial
 stamp_number (InLane lane count) = 2 ^ 38 + lane_number lane * 2 ^ 32 + count
 
+-- the serial, or the count, has 32 bits
 abbrev pub StampFits : Stamp → Type 0
 StampFits (Serial serial) = serial < 2 ^ 32
 StampFits (InLane lane count) = count < 2 ^ 32

@@ -1,3 +1,4 @@
+// What is wrong with the number of an item.
 ghost use Rattle.std.specs.Prelude.{◌≡◌};
 ghost use Rattle.item.specs.Faults.{item_refusal};
 

@@ -1,3 +1,4 @@
+// What an item is: it has a number of 40 bits, and is made of one again.
 ghost use Rattle.std.specs.Prelude.{◌≡◌, ℕ, ◌^◌, ◌<◌, Ok, Result, MatchResult, ◌==◌, ◌≢◌};
 ghost use Rattle.item.specs.declared.fault.ItemFault.{ItemFault};
 

@@ -1,3 +1,4 @@
+// The lane of a stamp: six bits.
 ghost use Rattle.std.specs.Prelude.{◌≡◌};
 ghost use Rattle.item.specs.Lanes.{lane_number, lane_named};
 

@@ -1,3 +1,4 @@
+// Items of type 1: a serial of 32 bits, or a lane with a count of 32 bits.
 ghost use Rattle.item.specs.Stamps.{stamp_number, StampFits, stamp_named};
 ghost use Rattle.item.specs.StampNumbers.{stamp_there, stamp_back};
 ghost use Rattle.std.proofs.Common.{rules};

@@ -1,3 +1,4 @@
+// Items of type 0: a number of 32 bits.
 ghost use Rattle.std.specs.Prelude.{ℕ, ◌^◌, ◌<◌};
 ghost use Rattle.item.specs.Tickets.{ticket_named};
 ghost use Rattle.std.proofs.Common.{rules};

@@ -1,4 +1,4 @@
--- The largest starts so far are admissible instants where any are, and the least. Assumes nothing.
+-- The largest starts so far are no larger than any admissible instants. Assumes nothing.
 use Rattle.std.proofs.Common.{◌≡◌, ℕ, suc, ◌≤◌, max, List, [], ◌∷◌, ◌++◌, length, refl, ap, arith}
 use Rattle.std.specs.List.{AllZip}
 use Rattle.order.specs.declared.operation.Paired.{Paired}
@@ -6,14 +6,6 @@ use Rattle.order.specs.Steps.{operation}
 use Rattle.order.specs.Times.{InstantsFrom, earliest_from}
 
 module _ (ops : List Paired) where
-  pub earliest_admits : (m m' : ℕ) (p ts : List ℕ) → m ≤ m' → InstantsFrom ops m' p ts → InstantsFrom ops m p (earliest_from ops m p)
-  earliest_admits m m' [] [] h i = tt
-  earliest_admits m m' [] (t ∷ ts) h i = elim i [ ]
-  earliest_admits m m' (x ∷ p) [] h i = elim i [ ]
-  earliest_admits m m' (x ∷ p) (t ∷ ts) h i =
-      let s : max m (operation ops x).start ≤ t = omega arith in
-      (omega arith, omega arith, omega arith, earliest_admits (max m (operation ops x).start) t p ts s i.3)
-
   pub earliest_below : (m m' : ℕ) (p ts : List ℕ) → m ≤ m' → InstantsFrom ops m' p ts → AllZip ◌≤◌ (earliest_from ops m p) ts
   earliest_below m m' [] [] h i = tt
   earliest_below m m' [] (t ∷ ts) h i = elim i [ ]

@@ -76,5 +76,9 @@ module _ (ops : List Paired) where
   pub admitted : (p : List ℕ) → InTimeOrder ops p → Instants ops p (earliest ops p)
   admitted p h = admits 0 p (λ i l. omega arith) (λ i j o l. ltb-false (operation ops (get_or p j 0)).end (operation ops (get_or p i 0)).start (h i j o l))
 
+-- the largest starts so far are admissible where any instants are
+pub earliest_admits : (ops : List Paired) (p ts : List ℕ) → Instants ops p ts → Instants ops p (earliest ops p)
+earliest_admits ops p ts h = admitted ops p (in_time_order ops p ts h)
+
 pub placed_in_time_order : (seat : SeatRule) (ops : List Paired) (k : ℕ) (p : List ℕ) → Placed seat ops k p → InTimeOrder ops p
 placed_in_time_order seat ops k p h = in_time_order ops p (earliest ops p) (placed_instants seat ops k p [] [] 0 (λ b l z. omega arith) h)

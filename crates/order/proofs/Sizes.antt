@@ -4,13 +4,14 @@ use Rattle.std.specs.List.{insert, sum}
 use Rattle.std.proofs.lemmas.List.Sums.{sum_by-cons}
 use Rattle.std.proofs.lemmas.Bool.{cond_both}
 use Rattle.giving.specs.Lists.{SeatRule, times, without}
+use Rattle.giving.proofs.Counts.{times_take}
 use Rattle.order.specs.declared.operation.Deed.{Deed}
 use Rattle.order.specs.declared.operation.Deed.TheVariants.{Add, Take, TakeOfNone, FoundEmpty}
 use Rattle.order.specs.declared.operation.Paired.{Paired}
 use Rattle.order.specs.Steps.{operation, rank_error, after_step, items_added, passes_over, giving_from, rank_errors_from, lateness_from, adds_in}
 use Rattle.order.specs.Orders.{Placed, WithinBound}
 use Rattle.order.specs.Laws.{Sizes}
-use Rattle.order.proofs.Sums.{sum_below_times, sum_below_le}
+use Rattle.order.proofs.Sums.{passes_times, sum_below_times, sum_below_le}
 use Rattle.order.proofs.AddUp.{after_times}
 use Rattle.order.proofs.Whole.{placed_known, placed_bounded, placed_once}
 
@@ -44,6 +45,12 @@ module _ (seat : SeatRule) (ops : List Paired) where
   pub held_times : (a : ℕ) (p L : List ℕ) → times a (giving_from seat ops L p) ≤ times a L + times a p
   held_times a [] L = omega arith
   held_times a (x ∷ p) L = let d : Deed = (operation ops x).deed in omega (arith, held_times a p (after_step seat x d L), after_times seat x d L a)
+
+  -- where no step stands twice, one passes over an item of the list once at most
+  pub passes_held : (a r : ℕ) (p L : List ℕ) → L ≡ giving_from seat ops [] p → times a p ≤ 1 → (passes_over a r L ≡ times a (take r L)) × (times a (take r L) ≤ 1)
+  passes_held a r p L is once =
+      let one : times a (take r L) ≤ 1 = omega (arith, times_take a r L, ap (times a) is, held_times a p [], once) in
+      (passes_times a r L one, one)
 
   held_length : (p L : List ℕ) → length (giving_from seat ops L p) ≤ length L + adds_in ops p
   held_length [] L = omega arith

@@ -1,9 +1,9 @@
 -- True orders are the placed orders of full length. Assumes nothing.
 use Rattle.std.proofs.Common.{◌≡◌, ℕ, ◌+◌, ◌<◌, ◌≤◌, max, eqb, List, [], ◌∷◌, length, sym, refl, ap, ◌∙◌, arith}
 use Rattle.std.specs.List.{AllByRecursion}
-use Rattle.std.proofs.lemmas.Bool.{cond_both, cond-true, eqb-true, eq-eqb, le-ltb, ltb-false}
+use Rattle.std.proofs.lemmas.Bool.{cond_both, eqb-true, le-ltb, ltb-false}
 use Rattle.giving.specs.Lists.{SeatRule, times}
-use Rattle.giving.proofs.Counts.{once_more}
+use Rattle.giving.proofs.Counts.{times_here, once_more}
 use Rattle.order.specs.declared.operation.Paired.{Paired}
 use Rattle.order.specs.Steps.{operation, after_step}
 use Rattle.order.specs.Times.{InstantsFrom, earliest_from, earliest}
@@ -26,7 +26,7 @@ module _ (seat : SeatRule) (ops : List Paired) (k : ℕ) where
   place_all (x ∷ p) done L m (t ∷ ts) low one within_bound i = (
     record {
       known = low.0;
-      fresh = omega (arith, cond-true {A = ℕ} (eqb x x) 1 0 (eq-eqb x x refl), one x low.0);
+      fresh = omega (arith, times_here x x p refl, one x low.0);
       in_time = λ b l z. le-ltb (operation ops b).end (operation ops x).start (omega (arith, later ops t (x ∷ p) (t ∷ ts) b (omega arith, i.1, i.2, i.3) (omega (arith, one b l))));
       ranked = within_bound.0;
       small = within_bound.1;

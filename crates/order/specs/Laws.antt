@@ -19,6 +19,7 @@ pub record CostOf (d : Deed) (L : List ℕ) : Type 0 where
   pub has_one : (r : ℕ) → Stretch d L r → has_rank d L ≡ true
   pub only : (r : ℕ) → ShortestStretch d L r → r ≡ rank_error d L
 
+-- that holds of every step, whatever list it finds
 abbrev pub RankErrorIsShortestStretch : Type 0
 RankErrorIsShortestStretch = (d : Deed) (L : List ℕ) → CostOf d L
 
@@ -44,6 +45,7 @@ pub record OneMore (seat : SeatRule) (ops : List Paired) (p : List ℕ) (x : ℕ
   pub latenesses : (a : ℕ) → lateness seat ops a (p ++ (x ∷ [])) ≡ lateness seat ops a p + passes_over a (rank_error (operation ops x).deed (giving_after seat ops p)) (giving_after seat ops p)
   pub adds : adds_in ops (p ++ (x ∷ [])) ≡ adds_in ops p + items_added (operation ops x).deed
 
+-- that holds after all steps, of every one more
 abbrev pub OneMoreStep : Type 0
 OneMoreStep = (seat : SeatRule) (ops : List Paired) (p : List ℕ) (x : ℕ) → OneMore seat ops p x
 
@@ -64,5 +66,6 @@ pub record Sizes (seat : SeatRule) (ops : List Paired) (k : ℕ) (p : List ℕ) 
   pub late : (a : ℕ) → lateness seat ops a p ≤ length p
   pub total : sum (rank_errors seat ops p) ≤ length p * k
 
+-- they get no larger in any placed order
 abbrev pub PlacedOrdersStaySmall : Type 0
 PlacedOrdersStaySmall = (seat : SeatRule) (ops : List Paired) (k : ℕ) (p : List ℕ) → Placed seat ops k p → Sizes seat ops k p

@@ -21,6 +21,7 @@ module _ (seat : SeatRule) (ops : List Paired) (k : ℕ) where
   PlacedFrom done L [] = Unit {0}
   PlacedFrom done L (x ∷ p) = Acceptable ops k done L x × PlacedFrom (x ∷ done) (after_step seat x (operation ops x).deed L) p
 
+  -- each step of an order was acceptable when it was placed
   abbrev pub Placed : List ℕ → Type 0
   Placed p = PlacedFrom [] [] p
 

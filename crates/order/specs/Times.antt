@@ -14,6 +14,7 @@ InstantsFrom ops m [] (t ∷ ts) = ⊥
 InstantsFrom ops m (x ∷ p) [] = ⊥
 InstantsFrom ops m (x ∷ p) (t ∷ ts) = (m ≤ t) × ((operation ops x).start ≤ t) × (t ≤ (operation ops x).end) × InstantsFrom ops t p ts
 
+-- the same of an order, from 0 on
 abbrev pub Instants : List Paired → List ℕ → List ℕ → Type 0
 Instants ops p ts = InstantsFrom ops 0 p ts
 
@@ -22,5 +23,6 @@ abbrev pub earliest_from : List Paired → ℕ → List ℕ → List ℕ
 earliest_from ops m [] = []
 earliest_from ops m (x ∷ p) = max m (operation ops x).start ∷ earliest_from ops (max m (operation ops x).start) p
 
+-- the same of an order: its earliest instants, if it admits any
 abbrev pub earliest : List Paired → List ℕ → List ℕ
 earliest ops p = earliest_from ops 0 p

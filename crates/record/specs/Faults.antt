@@ -6,6 +6,7 @@ use Rattle.item.specs.Faults.{item_refusal}
 use Rattle.record.specs.declared.fault.RecordFault.{RecordFault}
 use Rattle.record.specs.declared.fault.RecordFault.TheVariants.{NoSuchMethod, SpareBit, Item, ItemOnFoundEmpty}
 
+-- of the record at that place
 abbrev pub record_refusal : ℕ → RecordFault → Refusal
 record_refusal place NoSuchMethod = record { layer = Record; number = 10; place = place; detail = 0 }
 record_refusal place SpareBit = record { layer = Record; number = 11; place = place; detail = 0 }

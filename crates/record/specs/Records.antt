@@ -15,6 +15,7 @@ module _ {I : Type 0} where
   with_item method (Ok x) = Ok (method x)
   with_item method (Err e) = Err (Item e)
 
+  -- a method with its thread and its times, or the record's fault
   abbrev pub with_times : ℕ → ℕ → ℕ → Result (Method I) RecordFault → Result (Operation I) RecordFault
   with_times thread start end (Ok m) = Ok (record { method = m; thread = thread; start = start; end = end })
   with_times thread start end (Err f) = Err f
@@ -49,6 +50,7 @@ module _ {I : Type 0} (t : Ghosts I) where
   abbrev pub encode_record : Operation I → List ℕ
   encode_record op = bytes_of_number 6 (word_of_method op.method) ++ bytes_of_number 2 op.thread ++ bytes_of_number 8 op.start ++ bytes_of_number 8 op.end
 
+  -- the item of a method fits
   abbrev pub FitMethod : Method I → Type 0
   FitMethod (Add x) = t.fit x
   FitMethod (Take x) = t.fit x

@@ -1,3 +1,4 @@
+// Numbers among bytes, highest byte first.
 ghost use Rattle.std.specs.Prelude.{◌≡◌, ◌%◌, ◌^◌, ◌<◌, ◌≤◌, length};
 ghost use Rattle.std.specs.Int.Digits.{number_from_digits};
 ghost use Rattle.record.specs.Bytes.{number_in};

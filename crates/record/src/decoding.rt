@@ -1,3 +1,4 @@
+// The operation of 24 bytes.
 ghost use Rattle.std.specs.Prelude.{◌≡◌, length, IfOk};
 ghost use Rattle.record.specs.Records.{decode_record, encode_record, method_said};
 

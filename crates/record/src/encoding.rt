@@ -1,3 +1,4 @@
+// The 24 bytes of an operation.
 ghost use Rattle.std.specs.Prelude.{◌≡◌, ◌++◌, Ok};
 ghost use Rattle.record.specs.Bytes.{bytes_of_number};
 ghost use Rattle.record.specs.Records.{decode_record, encode_record, word_of_method, FitMethod, Fit};

@@ -1,3 +1,4 @@
+// What is wrong with the bytes of a record.
 ghost use Rattle.std.specs.Prelude.{◌≡◌};
 ghost use Rattle.record.specs.declared.fault.RecordFault.TheVariants.{Item};
 ghost use Rattle.record.specs.Faults.{record_refusal};

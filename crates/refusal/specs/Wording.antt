@@ -4,6 +4,7 @@ use Rattle.refusal.specs.declared.Layer.{Layer}
 use Rattle.refusal.specs.declared.Layer.TheVariants.{Frame, Record, Item, Sheet, Docket, Holder}
 use Rattle.refusal.specs.declared.Refusal.{Refusal}
 
+-- the word of each layer
 abbrev pub layer_name : Layer → List ℕ
 layer_name Frame = codes "frame"
 layer_name Record = codes "record"

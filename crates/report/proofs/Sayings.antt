@@ -23,6 +23,7 @@ use Rattle.trace.specs.Copying.{copying, Copied}
 use Rattle.trace.specs.Faults.{read_refusal, copy_refusal}
 use Rattle.trace.specs.Reading.{Outcome}
 use Rattle.trace.specs.Reading.Outcome.{unread, refused, accepted}
+use Rattle.trace.proofs.Copies.{not_refused}
 use Rattle.report.specs.declared.verdict.Report.{Report}
 use Rattle.report.specs.declared.report.ReportFault.{ReportFault}
 use Rattle.report.specs.declared.report.ReportFault.TheVariants as fault
@@ -53,10 +54,6 @@ module _ {I : Type 0} (t : Ghosts I) where
       let p = passed (ltb size (8 + 26 * length c.ops)) (Writing Memory) (Ok (saying_of c)) (said a) (sym e) in
       let q : saying_of c ≡ said a = let f = p.1 in cc in
       accepted_said a c os q h
-
-  not_refused : (b : Bool) (s : Said) (e : ReadFault) → Err (Reading e) ≡ cond b (Err (Writing Memory)) (Ok s) → ⊥
-  not_refused true s e p = cc
-  not_refused false s e p = cc
 
   refused_said : (o : Outcome I) (size : ℕ) (e : ReadFault) → Err (Reading e) ≡ copying size o → refusing (read_refusal e) ≡ saying t o
   refused_said (unread f) size e p = let q : e ≡ Frame f = cc in ap (λ z. refusing (read_refusal z)) q

@@ -7,15 +7,16 @@ use Rattle.sheet.specs.declared.operation.Operation.{Operation}
 use Rattle.calls.specs.declared.certificate.Certificate.{Certificate}
 
 -- a step, its operation, its rank error and its instant
-abbrev pub line_of_step : ℕ → ℕ → ℕ → ℕ → List ℕ
+unfoldable pub line_of_step : ℕ → ℕ → ℕ → ℕ → List ℕ
 line_of_step step operation rank at =
     codes "step " ++ (decimal step ++ (codes " op " ++ (decimal operation ++ (codes " rank " ++ (decimal rank ++ (codes " at " ++ (decimal at ++ codes "\n")))))))
 
 -- an add and its lateness
-abbrev pub line_of_late : ℕ → ℕ → List ℕ
+unfoldable pub line_of_late : ℕ → ℕ → List ℕ
 line_of_late number late = codes "late " ++ (decimal number ++ (codes " " ++ (decimal late ++ codes "\n")))
 
-abbrev pub line_of_certified : ℕ → Certificate → List ℕ
+-- the line that grants a certificate: k, the sum of the rank errors, the largest, and the first step that has it
+unfoldable pub line_of_certified : ℕ → Certificate → List ℕ
 line_of_certified k c =
     codes "certified k " ++ (decimal k ++ (codes " total " ++ (decimal c.total ++ (codes " max " ++ (decimal c.largest ++ (codes " step " ++ (decimal c.first ++ codes "\n")))))))
 
@@ -39,10 +40,12 @@ module _ {I : Type 0} where
   late_of_method n late (Take x) = []
   late_of_method n late FoundEmpty = []
 
+  -- the same of an operation, if there is one
   abbrev pub late_of : ℕ → ℕ → Option (Operation I) → List ℕ
   late_of n late None = []
   late_of n late (Some o) = late_of_method n late o.method
 
+  -- the line of operation n, by its lateness
   abbrev pub late_at : List (Operation I) → List ℕ → ℕ → List ℕ
   late_at os lates n = late_of n (slice_index lates n) (slice_get os n)
 

@@ -23,6 +23,7 @@ use Rattle.examination.specs.Traces.{by_type}
 use Rattle.report.specs.declared.verdict.Report.{Report}
 use Rattle.report.specs.Lines.{lines_of_steps, lines_of_lates, line_of_certified}
 
+-- the line of a refusal, with its line feed
 abbrev pub refused_text : Refusal → List ℕ
 refused_text r = refusal_line r ++ codes "\n"
 
@@ -31,9 +32,11 @@ pub record Verdict : Type 0 where
   pub text : List ℕ
   pub granted : Bool
 
+-- what the report that a program has says
 abbrev pub verdict_in : Report → Verdict
 verdict_in p = record { text = string_bytes p.text; granted = p.granted }
 
+-- a refusal's line, which grants nothing
 abbrev pub refusing : Refusal → Verdict
 refusing r = record { text = refused_text r; granted = false }
 
@@ -49,6 +52,7 @@ module _ {I : Type 0} (os : List (Operation I)) (k : ℕ) (p : List ℕ) where
 
 module _ {I : Type 0} (t : Ghosts I) where
   module _ (seat : SeatRule) (os : List (Operation I)) (k : ℕ) where
+    -- the operations, paired
     abbrev pub ops : List Paired
     ops = paired_all t.number os
 

@@ -31,6 +31,7 @@ pub struct CertifiedLine {
 impl fmt::Display for StepLine {
     ghost output = { λ l. Some (line_of_step l.step l.operation l.rank l.at) };
 
+    #[tactic(auto, unfolding(crate::specs::Lines::line_of_step))]
     fn fmt<W: fmt::Write>(&self, f: &mut fmt::Formatter<W>) -> fmt::Result {
         write!(
             f,
@@ -43,6 +44,7 @@ impl fmt::Display for StepLine {
 impl fmt::Display for LateLine {
     ghost output = { λ l. Some (line_of_late l.number l.late) };
 
+    #[tactic(auto, unfolding(crate::specs::Lines::line_of_late))]
     fn fmt<W: fmt::Write>(&self, f: &mut fmt::Formatter<W>) -> fmt::Result {
         write!(f, "late {} {}\n", self.number, self.late)
     }
@@ -51,6 +53,7 @@ impl fmt::Display for LateLine {
 impl fmt::Display for CertifiedLine {
     ghost output = { λ l. Some (line_of_certified l.k l.certificate) };
 
+    #[tactic(auto, unfolding(crate::specs::Lines::line_of_certified))]
     fn fmt<W: fmt::Write>(&self, f: &mut fmt::Formatter<W>) -> fmt::Result {
         let certificate = self.certificate;
         write!(

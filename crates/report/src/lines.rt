@@ -1,3 +1,4 @@
+// The lines of the steps of an order, and of the adds of a sheet.
 ghost use Rattle.std.specs.Prelude.{◌≡◌, ◌≤◌, length, IfOk, string_bytes};
 ghost use Rattle.sheet.specs.Sheets.{entered};
 ghost use Rattle.report.specs.Lines.{lines_of_steps, lines_of_lates};

@@ -1,4 +1,5 @@
-ghost use Rattle.std.specs.Prelude.{◌≡◌, ℕ, true, IfOk, Some, MatchResult};
+// From the bytes of a trace to the text that is printed of it.
+ghost use Rattle.std.specs.Prelude.{◌≡◌, ℕ, true, IfOk, Some, MatchResult, vec_len};
 ghost use Rattle.sheet.specs.Sheets.{entered};
 ghost use Rattle.std.specs.Option.{option_map};
 ghost use Rattle.frame.specs.Kinds.{kind_number};
@@ -11,11 +12,12 @@ ghost use Rattle.report.specs.declared.report.ReportFault.TheVariants.{NoMemory}
 ghost use Rattle.report.specs.Reports.{verdict_in, refusing, verdict_of_order, saying, report_on};
 
 use crate::verdict::{Report, refused, verdict_by_kind};
-use examination::examining::{blank_records, has_stamps};
+use examination::examining::{blank, has_stamps};
 use examination::proposal::Proposal;
 use item::item::Item;
 use item::stamp::Stamp;
 use item::ticket::Ticket;
+use sheet::operation::Operation;
 use sheet::sheet::Sheet;
 use std::alloc::{AllocError, Global};
 use trace::copy::copy;
@@ -38,8 +40,15 @@ impl From<AllocError> for ReportFault {
     }
 }
 
+// So many records, to be lent to a sheet. What they hold no rule decides.
+pub fn blank_records<I: Item>(heap: Global, count: usize) -> Result<Vec<Operation<I>>, AllocError>
+    ensures { IfOk result (λ v. vec_len v ≡ count) }
+{
+    vec![in heap; blank(); count]
+}
+
 // What is said of an accepted trace, whose operations are on the sheet.
-fn examined<I: Item>(
+fn report_of_accepted<I: Item>(
     heap: Global,
     sheet: &Sheet<I>,
     accepted: &Accepted,
@@ -55,7 +64,7 @@ fn examined<I: Item>(
 }
 
 // The report of a fault.
-fn faulted(heap: Global, fault: CopyFault) -> Result<Report, ReportFault>
+fn report_of_fault(heap: Global, fault: CopyFault) -> Result<Report, ReportFault>
     ensures { MatchResult result (λ p. Some (verdict_in p) ≡ option_map refusing (copy_refusal fault)) (λ e. e ≡ NoMemory) }
 {
     let refusal = fault.refusal().ok_or(ReportFault::NoMemory)?;
@@ -74,9 +83,9 @@ fn report_of<I: Item>(heap: Global, bytes: &[u8]) -> Result<Report, ReportFault>
             if *out.as_slice() != *bytes {
                 return Err(ReportFault::NotItsOwnBytes);
             }
-            Ok(examined(heap, &sheet, &accepted)?)
+            Ok(report_of_accepted(heap, &sheet, &accepted)?)
         }
-        Err(fault) => faulted(heap, fault),
+        Err(fault) => report_of_fault(heap, fault),
     }
 }
 

@@ -3,7 +3,7 @@ ghost use Rattle.std.specs.Prelude.{◌≡◌, ◌≤◌, true, length, IfOk, Re
 ghost use Rattle.sheet.specs.Sheets.{entered};
 ghost use Rattle.order.specs.Orders.{TrueOrder};
 ghost use Rattle.frame.specs.Kinds.{kind_number};
-ghost use Rattle.docket.specs.Lent.{held};
+ghost use Rattle.docket.specs.Buffers.{held};
 ghost use Rattle.docket.specs.Pairs.{paired_all};
 ghost use Rattle.examination.specs.Kinds.{seat_of};
 ghost use Rattle.report.specs.Reports.{verdict_in, verdict_of_order, refusing, granting, answering};

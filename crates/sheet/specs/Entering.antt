@@ -14,6 +14,7 @@ module _ {I : Type 0} where
   repeated_fault (Take x) place earlier = TakenAlready place earlier
   repeated_fault FoundEmpty place earlier = TakenAlready place earlier
 
+  -- the place, or that fault where an earlier operation did the same
   abbrev pub unless_repeated : Method I → ℕ → Option ℕ → Result ℕ SheetFault
   unless_repeated m place None = Ok place
   unless_repeated m place (Some earlier) = Err (repeated_fault m place earlier)

@@ -4,6 +4,7 @@ use Rattle.refusal.specs.declared.Refusal.{Refusal}
 use Rattle.sheet.specs.declared.fault.SheetFault.{SheetFault}
 use Rattle.sheet.specs.declared.fault.SheetFault.TheVariants.{Full, EndBeforeStart, AddedAlready, TakenAlready}
 
+-- the detail is the earlier operation, where there is one
 abbrev pub sheet_refusal : SheetFault → Refusal
 sheet_refusal (Full place) = record { layer = Sheet; number = 20; place = place; detail = 0 }
 sheet_refusal (EndBeforeStart place) = record { layer = Sheet; number = 21; place = place; detail = 0 }

@@ -11,6 +11,7 @@ module _ {I : Type 0} (number : I → ℕ) where
   abbrev pub add_matching : I → List (Operation I) → Option ℕ
   add_matching x os = first_alike_in number (Add x) 0 os
 
+  -- the number of the add that a method belongs to, if it takes
   abbrev pub pair_of_method : List (Operation I) → Method I → Option ℕ
   pair_of_method os (Add x) = None
   pair_of_method os (Take x) = add_matching x os
@@ -36,6 +37,7 @@ module _ {I : Type 0} (number : I → ℕ) where
   LowestAdd n os None = (k : ℕ) → IsAdd n os k → ⊥
   LowestAdd n os (Some k) = IsAdd n os k × ((j : ℕ) → j < k → IsAdd n os j → ⊥)
 
+  -- r is the pairing of an operation of that method
   abbrev pub PairsMethod : List (Operation I) → Method I → Option ℕ → Type 0
   PairsMethod os (Add x) r = r ≡ None
   PairsMethod os (Take x) r = LowestAdd (number x) os r

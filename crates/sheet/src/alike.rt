@@ -1,3 +1,4 @@
+// Operations that do the same with the same item.
 ghost use Rattle.std.specs.Prelude.{◌≡◌, ◌<◌, length, IfSome};
 ghost use Rattle.sheet.specs.Alike.{alike, first_alike_in};
 

@@ -1,3 +1,4 @@
+// Why an operation is not entered.
 ghost use Rattle.std.specs.Prelude.{◌≡◌};
 ghost use Rattle.sheet.specs.Faults.{sheet_refusal};
 

@@ -1,3 +1,4 @@
+// The add of a take's item.
 ghost use Rattle.std.specs.Prelude.{◌≡◌, ◌<◌, length, IfSome};
 ghost use Rattle.sheet.specs.declared.operation.Method.TheVariants.{Add};
 ghost use Rattle.sheet.specs.Alike.{alike};

@@ -1,3 +1,4 @@
+// The sheet: operations in the order in which they are entered, in memory that is lent to it.
 ghost use Rattle.std.specs.Prelude.{◌≡◌, ℕ, ◌≤◌, [], ◌∷◌, ◌++◌, length, take, is_ok, if◌then◌else◌};
 ghost use Rattle.std.specs.List.{slice_get};
 ghost use Rattle.sheet.specs.Consistency.{Consistent};

@@ -1,5 +1,5 @@
 -- Reading a trace and writing it back.
-use Rattle.std.proofs.Common.{◌≡◌, ℕ, ◌+◌, ◌*◌, false, cond, ltb, List, length, Ok, Err, ap, ◌∙◌, arith}
+use Rattle.std.proofs.Common.{◌≡◌, ℕ, ◌+◌, ◌*◌, Bool, true, false, cond, ltb, List, length, Ok, Err, ap, ◌∙◌, arith}
 use Rattle.std.proofs.lemmas.Bool.Decides.{nat_tests}
 use Rattle.item.specs.declared.item.Item.{Ghosts}
 use Rattle.item.specs.Items.{Lawful}
@@ -11,7 +11,7 @@ use Rattle.trace.specs.declared.fault.CopyFault.TheVariants.{Reading, Writing}
 use Rattle.trace.specs.Contents.{Contents}
 use Rattle.trace.specs.Reading.{Outcome, reading}
 use Rattle.trace.specs.Reading.Outcome.{unread, refused, accepted}
-use Rattle.trace.specs.Answers.{read_answer, saying_of}
+use Rattle.trace.specs.Answers.{Said, read_answer, saying_of}
 use Rattle.trace.specs.Copying.{copying}
 use Rattle.trace.proofs.Readings.{length_encode, reading_back}
 
@@ -19,6 +19,11 @@ pub not_read : {I : Type 0} (bytes : ℕ) (o : Outcome I) (e : ReadFault) → Er
 not_read bytes (unread f) e p = let q : e ≡ _ = cc in ap (λ z. Err (Reading z)) q
 not_read bytes (refused os i f) e p = let q : e ≡ _ = cc in ap (λ z. Err (Reading z)) q
 not_read bytes (accepted c) e p = absurd cc
+
+-- once read, no refusal of reading is answered, whether there is room to write or not
+pub not_refused : (b : Bool) (s : Said) (e : ReadFault) → Err (Reading e) ≡ cond b (Err (Writing Memory)) (Ok s) → ⊥
+not_refused true s e p = cc
+not_refused false s e p = cc
 
 module _ {I : Type 0} (t : Ghosts I) (law : Lawful t) (room : ℕ) (bs : List ℕ) (b : Bytes bs) where
   long_enough : (c : Contents I) → reading t room bs ≡ accepted c → ltb (length bs) (8 + 26 * length c.ops) ≡ false

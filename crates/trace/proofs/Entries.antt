@@ -100,27 +100,27 @@ module _ {I : Type 0} (t : Ghosts I) where
         )
 
     -- that they enter, as a test
-    stands : ℕ → List (Operation I) → List (Operation I) → Bool
-    stands room os [] = true
-    stands room os (op ∷ ops) = is_ok (enter_answer t.number room os op) && stands room (os ++ op ∷ []) ops
+    all_enter : ℕ → List (Operation I) → List (Operation I) → Bool
+    all_enter room os [] = true
+    all_enter room os (op ∷ ops) = is_ok (enter_answer t.number room os op) && all_enter room (os ++ op ∷ []) ops
 
-    stands_of : (room : ℕ) (os ops : List (Operation I)) → Enters room os ops → stands room os ops ≡ true
-    unfolding stands
-    stands_of room os [] e = refl
-    stands_of room os (op ∷ ops) e =
-        ap (λ r. is_ok r && stands room (os ++ op ∷ []) ops) e.1 ∙ stands_of room (os ++ op ∷ []) ops e.2
+    all_enter_of : (room : ℕ) (os ops : List (Operation I)) → Enters room os ops → all_enter room os ops ≡ true
+    unfolding all_enter
+    all_enter_of room os [] e = refl
+    all_enter_of room os (op ∷ ops) e =
+        ap (λ r. is_ok r && all_enter room (os ++ op ∷ []) ops) e.1 ∙ all_enter_of room (os ++ op ∷ []) ops e.2
 
-    enters_again : (room : ℕ) (os ops : List (Operation I)) → AllFit t ops → stands room os ops ≡ true → Enters room os ops
-    unfolding stands
+    enters_again : (room : ℕ) (os ops : List (Operation I)) → AllFit t ops → all_enter room os ops ≡ true → Enters room os ops
+    unfolding all_enter
     enters_again room os [] a e = tt
     enters_again room os (op ∷ ops) a e =
-        let b = and_parts (is_ok (enter_answer t.number room os op)) (stands room (os ++ op ∷ []) ops) e in
+        let b = and_parts (is_ok (enter_answer t.number room os op)) (all_enter room (os ++ op ∷ []) ops) e in
         let w = was_ok (enter_answer t.number room os op) b.0 in
         (a.0, enter_number t.number room w.0 os op w.1, enters_again room (os ++ op ∷ []) ops a.1 b.1)
 
     -- operations that are merely known to be consistent are so
     pub consistent_again : (ops : List (Operation I)) → AllFit t ops → ∥ Consistent [] ops ∥₁ → Consistent [] ops
     consistent_again ops a s =
-        let e : stands (length ops) [] ops ≡ true =
-        ∥∥₁_elim s (Bool-set _ _) (λ c. stands_of (length ops) [] ops (enters_of (length ops) [] ops tt a c (omega arith))) in
+        let e : all_enter (length ops) [] ops ≡ true =
+        ∥∥₁_elim s (Bool-set _ _) (λ c. all_enter_of (length ops) [] ops (enters_of (length ops) [] ops tt a c (omega arith))) in
         consistent_of (length ops) [] ops (enters_again (length ops) [] ops a e)

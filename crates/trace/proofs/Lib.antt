@@ -1,5 +1,5 @@
 mod Entries
-mod Runs
+mod RecordsTaken
 pub mod Readings
 mod Writes
 pub mod Copies

@@ -18,14 +18,14 @@ use Rattle.trace.specs.Contents.{Contents, contents, encode, Sound}
 use Rattle.trace.specs.declared.fault.ReadFault.{ReadFault}
 use Rattle.trace.specs.declared.read.Accepted.{Accepted}
 use Rattle.trace.specs.Answers.{Said, said, saying_of, shown, read_answer, sheet_after, contents_of}
-use Rattle.trace.specs.Reading.{Run, Outcome, run, ended, framed, reading}
-use Rattle.trace.specs.Reading.Run.{going, stopped}
+use Rattle.trace.specs.Reading.{RecordsTaken, Outcome, records_taken, outcome_after, outcome_by_header, reading}
+use Rattle.trace.specs.Reading.RecordsTaken.{going, stopped}
 use Rattle.trace.specs.Reading.Outcome.{unread, refused, accepted}
 use Rattle.frame.proofs.KindNumbers.{kind_of, number_small}
 use Rattle.frame.proofs.HeaderFields.{length_header, frame_there, frame_back}
 use Rattle.frame.proofs.OrderNumbers.{numbers_there, numbers_back, length_numbers}
 use Rattle.trace.proofs.Entries.{fits_of, consistent_of, place_of, enters_of}
-use Rattle.trace.proofs.Runs.{length_joined, run_back, run_there}
+use Rattle.trace.proofs.RecordsTaken.{length_joined, taken_back, taken_there}
 
 pub length_encode : {I : Type 0} (t : Ghosts I) (c : Contents I) → length c.order ≡ length c.ops → length (encode t c) ≡ 8 + 26 * length c.ops
 length_encode t c e =
@@ -40,13 +40,13 @@ module _ {I : Type 0} (t : Ghosts I) (law : Lawful t) (room : ℕ) (bs : List �
     pub sound : Sound t room c
     pub bytes : bs ≡ encode t c
 
-  going_back : (h : Header) (os : List (Operation I)) → Bytes bs → frame_of t.TYPE bs ≡ Ok h → run t room bs h.count ≡ going os →
+  going_back : (h : Header) (os : List (Operation I)) → Bytes bs → frame_of t.TYPE bs ≡ Ok h → records_taken t room bs h.count ≡ going os →
       SoundBytes (contents (kind_number h.kind) h.k os (numbers_of h.count (drop (8 + 24 * h.count) bs)))
   going_back h os b e r =
       let f = frame_back t.TYPE bs h b e in
       let n = h.count in
       let fl = f.long in
-      let k = run_back t law room bs n os b (omega arith) r in
+      let k = taken_back t law room bs n os b (omega arith) r in
       let o = numbers_back n (drop (8 + 24 * n) bs) (bytes_drop (8 + 24 * n) bs b) (simp length-drop (omega arith)) in
       let m = k.many in
       let few = f.few in
@@ -73,19 +73,19 @@ module _ {I : Type 0} (t : Ghosts I) (law : Lawful t) (room : ℕ) (bs : List �
             ∙ ap (λ q. bytes_of_header t.TYPE (kind_number h.kind) (length os) h.k ++ flat_map (encode_record t) os ++ q) (z ∙ sym o.0);
       }
 
-  ended_back : (h : Header) (c : Contents I) (r : Run I) → Bytes bs → frame_of t.TYPE bs ≡ Ok h → run t room bs h.count ≡ r →
-      ended h bs r ≡ accepted c → SoundBytes c
-  ended_back h c (going os) b e r p =
+  outcome_back : (h : Header) (c : Contents I) (r : RecordsTaken I) → Bytes bs → frame_of t.TYPE bs ≡ Ok h → records_taken t room bs h.count ≡ r →
+      outcome_after h bs r ≡ accepted c → SoundBytes c
+  outcome_back h c (going os) b e r p =
       let q : contents (kind_number h.kind) h.k os (numbers_of h.count (drop (8 + 24 * h.count) bs)) ≡ c = cc in
       subst SoundBytes q (going_back h os b e r)
-  ended_back h c (stopped os i f) b e r p = absurd cc
+  outcome_back h c (stopped os i f) b e r p = absurd cc
 
-  framed_back : (c : Contents I) (r : Result Header FrameFault) → Bytes bs → frame_of t.TYPE bs ≡ r → framed t room bs r ≡ accepted c → SoundBytes c
-  framed_back c (Ok h) b e p = ended_back h c (run t room bs h.count) b e refl p
-  framed_back c (Err f) b e p = absurd cc
+  header_back : (c : Contents I) (r : Result Header FrameFault) → Bytes bs → frame_of t.TYPE bs ≡ r → outcome_by_header t room bs r ≡ accepted c → SoundBytes c
+  header_back c (Ok h) b e p = outcome_back h c (records_taken t room bs h.count) b e refl p
+  header_back c (Err f) b e p = absurd cc
 
   pub reading_back : (c : Contents I) → Bytes bs → reading t room bs ≡ accepted c → SoundBytes c
-  reading_back c b p = framed_back c (frame_of t.TYPE bs) b refl p
+  reading_back c b p = header_back c (frame_of t.TYPE bs) b refl p
 
   pub reading_there : (c : Contents I) → Sound t room c → bs ≡ encode t c → reading t room bs ≡ accepted c
   reading_there c v e =
@@ -104,12 +104,12 @@ module _ {I : Type 0} (t : Ghosts I) (law : Lawful t) (room : ℕ) (bs : List �
       let f : frame_of t.TYPE bs ≡ Ok (record { kind = kind.0; count = n; k = c.k }) =
       ap (frame_of t.TYPE) e₁ ∙ ap (λ m. frame_of t.TYPE (bytes_of_header t.TYPE m n c.k ++ (recs ++ ords))) (sym kind.1)
       ∙ frame_there t.TYPE n c.k kind.0 (recs ++ ords) law.coded v.count v.k (rw length-append (omega arith)) in
-      let r : run t room bs n ≡ going c.ops =
-      ap (run t room bs) (sym (zero-add n)) ∙ run_there t law room bs head ords [] c.ops lh e₁ refl enters in
+      let r : records_taken t room bs n ≡ going c.ops =
+      ap (records_taken t room bs) (sym (zero-add n)) ∙ taken_there t law room bs head ords [] c.ops lh e₁ refl enters in
       let d : drop (8 + 24 * n) bs ≡ ords = ap (drop (8 + 24 * n)) e ∙ drop_at (head ++ recs) ords (8 + 24 * n) (rw length-append (omega arith)) in
       let o : numbers_of n (drop (8 + 24 * n) bs) ≡ c.order =
       ap (numbers_of n) d ∙ ap (λ m. numbers_of m ords) (sym eq) ∙ numbers_there c.order v.small in
-      ap (framed t room bs) f ∙ ap (ended (record { kind = kind.0; count = n; k = c.k }) bs) r
+      ap (outcome_by_header t room bs) f ∙ ap (outcome_after (record { kind = kind.0; count = n; k = c.k }) bs) r
       ∙ ap (λ q. accepted (contents (kind_number kind.0) c.k c.ops q)) o ∙ ap (λ m. accepted (contents m c.k c.ops c.order)) kind.1
 
 -- an answer that accepts says the contents

@@ -15,7 +15,7 @@ use Rattle.trace.specs.Contents.{contents, encode, AllFit}
 use Rattle.trace.specs.Reading.{reading}
 use Rattle.trace.specs.Reading.Outcome.{accepted}
 use Rattle.frame.proofs.HeaderFields.{length_header}
-use Rattle.trace.proofs.Runs.{length_joined}
+use Rattle.trace.proofs.RecordsTaken.{length_joined}
 use Rattle.trace.proofs.Entries.{consistent_again}
 use Rattle.trace.proofs.Readings.{length_encode, reading_there}
 

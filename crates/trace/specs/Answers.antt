@@ -9,8 +9,8 @@ use Rattle.trace.specs.declared.read.Accepted.{Accepted}
 use Rattle.frame.specs.Kinds.{kind_number}
 use Rattle.frame.specs.Orders.{order_of}
 use Rattle.trace.specs.Contents.{Contents, contents}
-use Rattle.trace.specs.Reading.{Run, Outcome}
-use Rattle.trace.specs.Reading.Run.{going, stopped}
+use Rattle.trace.specs.Reading.{RecordsTaken, Outcome}
+use Rattle.trace.specs.Reading.RecordsTaken.{going, stopped}
 use Rattle.trace.specs.Reading.Outcome.{unread, refused, accepted}
 
 -- kind, k and order
@@ -20,6 +20,7 @@ pub record Said : Type 0 where
   pub order : List ℕ
 
 module _ {I : Type 0} where
+  -- what contents say besides the operations
   abbrev pub saying_of : Contents I → Said
   saying_of c = record { kind = c.kind; k = c.k; order = c.order }
 
@@ -36,14 +37,15 @@ module _ {I : Type 0} where
   sheet_after old (accepted c) = c.ops
 
   -- the run that an answer for one record, or for all, and the operations then entered stand for
-  abbrev pub left_at : ℕ → Result (Unit {0}) EntryFault → List (Operation I) → Run I
+  abbrev pub left_at : ℕ → Result (Unit {0}) EntryFault → List (Operation I) → RecordsTaken I
   left_at i (Ok u) os = going os
   left_at i (Err e) os = stopped os i e
 
-  abbrev pub left_after : Result (Unit {0}) RefusedRecord → List (Operation I) → Run I
+  abbrev pub left_after : Result (Unit {0}) RefusedRecord → List (Operation I) → RecordsTaken I
   left_after (Ok u) os = going os
   left_after (Err r) os = stopped os r.place r.fault
 
+-- what an accepted trace says besides its operations
 abbrev pub said : Accepted → Said
 said a = record { kind = kind_number a.kind; k = a.k; order = order_of a.order }
 

@@ -9,12 +9,14 @@ use Rattle.record.specs.Records.{encode_record, Fit}
 use Rattle.frame.specs.Headers.{bytes_of_header}
 use Rattle.frame.specs.Orders.{Small}
 
+-- kind and k, the operations by their numbers, and the order of them
 pub record Contents (I : Type 0) : Type 0 where
   pub kind : ℕ
   pub k : ℕ
   pub ops : List (Operation I)
   pub order : List ℕ
 
+-- contents of these four parts
 abbrev pub contents : {I : Type 0} → ℕ → ℕ → List (Operation I) → List ℕ → Contents I
 contents kind k ops order = record { kind = kind; k = k; ops = ops; order = order }
 
@@ -23,6 +25,7 @@ module _ {I : Type 0} (t : Ghosts I) where
   abbrev pub encode : Contents I → List ℕ
   encode c = bytes_of_header t.TYPE c.kind (length c.ops) c.k ++ flat_map (encode_record t) c.ops ++ flat_map (bytes_of_number 2) c.order
 
+  -- the fields of each operation fit
   abbrev pub AllFit : List (Operation I) → Type 0
   AllFit = AllByRecursion (Fit t)
 

@@ -1,5 +1,6 @@
 -- What reading a trace and writing it back answers.
 use Rattle.std.specs.Prelude.{◌≡◌, ℕ, ◌+◌, ◌*◌, cond, length, Ok, Err, Result, nat_lt}
+use Rattle.trace.specs.declared.fault.ReadFault.{ReadFault}
 use Rattle.trace.specs.declared.fault.ReadFault.TheVariants.{Frame, Entry}
 use Rattle.trace.specs.declared.fault.WriteFault.TheVariants.{Memory}
 use Rattle.trace.specs.declared.fault.CopyFault.{CopyFault}
@@ -15,9 +16,9 @@ copying bytes (unread e) = Err (Reading (Frame e))
 copying bytes (refused os i e) = Err (Reading (Entry (record { place = i; fault = e })))
 copying bytes (accepted c) = cond (nat_lt bytes (8 + 26 * length c.ops)) (Err (Writing Memory)) (Ok (saying_of c))
 
--- the answer is the one given, unless there was no memory for the order
+-- the answer is the one given, unless reading accepts and there was no memory for the order
 abbrev pub Copied : Result Accepted CopyFault → Result Said CopyFault → Type 0
 Copied (Ok a) x = Ok (said a) ≡ x
 Copied (Err (Reading e)) x = Err (Reading e) ≡ x
 Copied (Err (Writing e)) x = Err (Writing e) ≡ x
-Copied (Err NoMemory) x = Unit {0}
+Copied (Err NoMemory) x = (e : ReadFault) → x ≡ Err (Reading e) → ⊥

@@ -13,14 +13,17 @@ use Rattle.trace.specs.declared.fault.WriteFault.TheVariants as writing
 use Rattle.trace.specs.declared.fault.CopyFault.{CopyFault}
 use Rattle.trace.specs.declared.fault.CopyFault.TheVariants.{Reading, Writing, NoMemory}
 
+-- of the record at that place
 abbrev pub entry_refusal : ℕ → EntryFault → Refusal
 entry_refusal place (Record fault) = record_refusal place fault
 entry_refusal place (Sheet fault) = sheet_refusal fault
 
+-- of reading: the frame's, or that of the record
 abbrev pub read_refusal : ReadFault → Refusal
 read_refusal (Frame fault) = frame_refusal fault
 read_refusal (Entry refused) = entry_refusal refused.place refused.fault
 
+-- of writing: they count as the frame's
 abbrev pub write_refusal : WriteFault → Refusal
 write_refusal writing.Kind = of_frame 3
 write_refusal writing.OrderLength = of_frame 52

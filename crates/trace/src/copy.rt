@@ -1,3 +1,4 @@
+// A trace read onto a sheet and written back.
 ghost use Rattle.std.specs.Prelude.{◌≡◌, ℕ, ◌≤◌, length, take, IfOk, MatchResult};
 ghost use Rattle.sheet.specs.Sheets.{entered, room, SameLoan};
 ghost use Rattle.trace.specs.Contents.{Sound};

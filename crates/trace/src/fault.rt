@@ -1,3 +1,4 @@
+// Why a trace is not read, not written or not copied.
 ghost use Rattle.std.specs.Prelude.{◌≡◌};
 ghost use Rattle.trace.specs.declared.fault.EntryFault.TheVariants.{Record, Sheet};
 ghost use Rattle.trace.specs.declared.fault.ReadFault.TheVariants.{Frame, Entry};

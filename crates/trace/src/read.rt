@@ -1,8 +1,9 @@
+// A trace read onto a sheet.
 ghost use Rattle.std.specs.Prelude.{◌≡◌, ℕ, ◌+◌, ◌*◌, ◌≤◌, [], length, IfOk, Ok};
 ghost use Rattle.sheet.specs.Sheets.{entered, room, SameLoan};
 ghost use Rattle.frame.specs.Layout.{record_count};
 ghost use Rattle.trace.specs.Contents.{Contents, Sound, encode};
-ghost use Rattle.trace.specs.Reading.{after_record, taken, run, reading};
+ghost use Rattle.trace.specs.Reading.{after_record, operation_taken, records_taken, reading};
 ghost use Rattle.trace.specs.Answers.{read_answer, sheet_after, left_at, left_after, shown, saying_of, contents_of};
 
 use crate::fault::{EntryFault, ReadFault, RefusedRecord};
@@ -27,7 +28,7 @@ pub struct Accepted<'a> {
 // Enters the operation that a record says.
 // Kept (no plainer): SameLoan relates a sheet before and after, which no type can hold.
 fn take_record<I: Item>(rec: &[u8], sheet: &mut Sheet<I>) -> Result<(), EntryFault>
-    ensures step { (i : ℕ) → after_record (entered sheet.old) i (taken I.Item (room sheet.old) (entered sheet.old) rec.now) ≡ left_at i result (entered sheet.new) }
+    ensures step { (i : ℕ) → after_record (entered sheet.old) i (operation_taken I.Item (room sheet.old) (entered sheet.old) rec.now) ≡ left_at i result (entered sheet.new) }
     ensures grows { length (entered sheet.old) ≤ length (entered sheet.new) }
     ensures loan { SameLoan sheet.old sheet.new }
 {
@@ -40,7 +41,7 @@ fn take_record<I: Item>(rec: &[u8], sheet: &mut Sheet<I>) -> Result<(), EntryFau
 fn take_all<I: Item>(trace: &Trace, sheet: &mut Sheet<I>) -> Result<(), RefusedRecord>
     requires few { record_count trace.now.bytes.now ≤ 1024 }
     requires empty { entered sheet.old ≡ [] }
-    ensures run { run I.Item (room sheet.old) trace.now.bytes.now (record_count trace.now.bytes.now) ≡ left_after result (entered sheet.new) }
+    ensures taken { records_taken I.Item (room sheet.old) trace.now.bytes.now (record_count trace.now.bytes.now) ≡ left_after result (entered sheet.new) }
     ensures loan { SameLoan sheet.old sheet.new }
 {
     for (place, rec) in trace.records().iter().enumerate() {

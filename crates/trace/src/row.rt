@@ -1,3 +1,4 @@
+// What stands in a trace in rows of so many bytes.
 ghost use Rattle.std.specs.Prelude.{◌≡◌, ℕ, ◌^◌, ◌<◌, List};
 ghost use Rattle.record.specs.Bytes.{bytes_of_number};
 ghost use Rattle.record.specs.Records.{encode_record, Fit};

@@ -1,3 +1,4 @@
+// Traces that the tests read, byte by byte.
 ghost use Rattle.std.specs.Prelude.{◌≡◌, is_ok};
 ghost use Rattle.std.specs.Option.{option_map};
 ghost use Rattle.sheet.specs.Sheets.{room};

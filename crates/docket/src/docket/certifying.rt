@@ -1,6 +1,6 @@
 // The call that certifies the placed order.
 ghost use Rattle.std.specs.Prelude.{◌≡◌};
-ghost use Rattle.docket.specs.Lent.{held, SameSlices};
+ghost use Rattle.docket.specs.Buffers.{held, SameSlices};
 ghost use Rattle.docket.specs.Agreed.{certifying, writing};
 
 use crate::buffers::Buffers;

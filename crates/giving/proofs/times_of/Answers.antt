@@ -12,8 +12,8 @@ returns-clause-value c = grind (arith, common_steps, is_sum_by (times c.args.cod
 pub returns-clause-some : goal.returns-clause-some
 returns-clause-some c = ap (ltb 0) (returns-clause-value c) ∙ stands_some c.args.code c.args.list.now
 
-pub returns-clause-beside : goal.returns-clause-beside
-returns-clause-beside c =
+pub returns-clause-changed : goal.returns-clause-changed
+returns-clause-changed c =
     let a = c.args.code in
     let L = c.args.list.now in
     let e = sym (returns-clause-value c) in

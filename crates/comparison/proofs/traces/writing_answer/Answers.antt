@@ -1,9 +1,10 @@
-use Rattle.std.proofs.Common.{◌≡◌, ◌+◌, ◌*◌, ◌/◌, ◌≤◌, ◌∙◌, ap, arith, drop, length, lit≤, refl, Some, slice_index, take}
+use Rattle.std.proofs.Common.{◌≡◌, ◌+◌, ◌*◌, ◌/◌, ◌≤◌, ◌∙◌, ap, arith, drop, length, lit≤, refl, Some, None, slice_index, take}
 use Rattle.record.specs.Bytes.{number_in}
 use Rattle.frame.specs.Orders.{numbers_of}
-use Rattle.comparison.specs.Cases.{words_of_trace_written}
+use Rattle.comparison.specs.Cases.{words_of_trace_written, writing_case}
 use Rattle.comparison.proofs.Parts.{parts_there, parts_answered}
 use Rattle.comparison.proofs.traces.writing_answer.Goals as goal
+use Rattle.comparison.proofs.traces.writing_answer.Goals.{In-Some}
 
 pub returns-clause-answer : goal.returns-clause-answer
 returns-clause-answer c =
@@ -30,18 +31,17 @@ returns-clause-no_case c none =
     let answered = returns-clause-answer c in
     cc
 
-pub returns-in_err-order-clause-no_case : goal.returns-in_err-order-clause-no_case
-returns-in_err-order-clause-no_case c none =
+-- a body with both parts is a case
+is_case : (c : In-Some) → writing_case c.args.body.now ≡ None → ⊥
+is_case c none =
     let n : c.number_at-count.result ≡ number_in 5 2 c.args.body.now = (c.number_at-count.ensures.narrow (lit≤ tt)).0 in
     let within = c.in-Some.ensures.variant.0 refl in
     parts_answered 7 (2 * number_in 5 2 c.args.body.now) c.args.body.now
     (λ o t. words_of_trace_written (slice_index c.args.body.now 0) (number_in 1 2 c.args.body.now) (numbers_of (number_in 5 2 c.args.body.now) o) (number_in 3 2 c.args.body.now) t)
     (omega (arith, within, n)) none
 
+pub returns-in_err-order-clause-no_case : goal.returns-in_err-order-clause-no_case
+returns-in_err-order-clause-no_case c none = absurd (is_case (goal.at.returns-in_err-order-clause-no_case c).In-Some none)
+
 pub returns-in_err-text-clause-no_case : goal.returns-in_err-text-clause-no_case
-returns-in_err-text-clause-no_case c none =
-    let n : c.number_at-count.result ≡ number_in 5 2 c.args.body.now = (c.number_at-count.ensures.narrow (lit≤ tt)).0 in
-    let within = c.in-Some.ensures.variant.0 refl in
-    parts_answered 7 (2 * number_in 5 2 c.args.body.now) c.args.body.now
-    (λ o t. words_of_trace_written (slice_index c.args.body.now 0) (number_in 1 2 c.args.body.now) (numbers_of (number_in 5 2 c.args.body.now) o) (number_in 3 2 c.args.body.now) t)
-    (omega (arith, within, n)) none
+returns-in_err-text-clause-no_case c none = absurd (is_case (goal.at.returns-in_err-text-clause-no_case c).In-Some none)

@@ -3,7 +3,7 @@ use Rattle.calls.specs.Calls.{Call}
 use Rattle.calls.proofs.Law.{the_law}
 use Rattle.docket.specs.Pairs.{sheet_ops}
 use Rattle.docket.specs.Slots.{call_of}
-use Rattle.docket.proofs.Slotted.{opened_all, met}
+use Rattle.docket.proofs.AnsweredSlots.{opened_all, met}
 use Rattle.docket.proofs.answer_calls.answer_calls.Goals as goal
 
 pub returns : goal.returns

@@ -1,6 +1,6 @@
 use Rattle.std.proofs.Common.{get_or, ◌∙◌, arith}
 use Rattle.std.proofs.lemmas.List.{get_or-set_other}
-use Rattle.docket.proofs.Slotted.{kept_more, answers_more, steps_more}
+use Rattle.docket.proofs.AnsweredSlots.{kept_more, answers_more, steps_more}
 use Rattle.docket.proofs.answer_calls.answer_each.Goals as goal
 
 pub loop-slot-preserved : goal.loop-slot-preserved

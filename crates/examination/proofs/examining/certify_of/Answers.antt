@@ -1,30 +1,40 @@
-use Rattle.std.proofs.Common.{◌≡◌, sym, ap, ◌∙◌, subst, rules}
+use Rattle.std.proofs.Common.{◌≡◌, min, length, Err, refl, sym, ap, ◌∙◌, arith, rules}
 use Rattle.std.proofs.lemmas.Result.{err_from_is_err_and}
 use Rattle.sheet.specs.Sheets.{entered, room}
 use Rattle.trace.specs.Reading.{reading}
-use Rattle.docket.specs.Lent.{held}
-use Rattle.examination.specs.Traces.{Examined, examining, Comes}
+use Rattle.docket.specs.Buffers.{held}
+use Rattle.examination.specs.Traces.{Examined, examining}
 use Rattle.examination.proofs.Traces.{accepted_examined, refused_examined}
 use Rattle.examination.proofs.examining.certify_of.Goals as goal
 
-pub returns-clause-comes : goal.returns-clause-comes
-returns-clause-comes g c =
+pub certify_accepted-requires : goal.certify_accepted-requires
+certify_accepted-requires g c =
+    let sound = c.in_ok-accepted.ensures.accepted_is_sound in
+    omega (arith, sound.ordered, sound.count)
+
+pub returns : goal.returns
+returns g c =
     let t = g.I.Item in
     let b = held c.args.buffers.now in
-    let o = reading g.I.Item (room c.new-sheet.result) c.args.bytes.now in
-    let e = c.in_ok-accepted.ensures in
-    let full : room c.new-sheet.result ≡ 1024 = search rules in
-    subst (λ (x : Examined). Comes x b c.certify_accepted.result (held c.certify_accepted.new.buffers))
-    (accepted_examined t b o (entered c.new-sheet.result) (entered c.read.new.sheet) c.in_ok-accepted.accepted e.answer e.entered
-    ∙ ap (λ n. examining t b (reading g.I.Item n c.args.bytes.now)) full) c.certify_accepted.ensures.comes
+    let o = reading t (room c.new-sheet.result) c.args.bytes.now in
+    let full : room c.new-sheet.result ≡ min (length c.args.records.now) 1024 = search rules in
+    let read = c.in_ok-accepted.ensures in
+    let same = accepted_examined t b o (entered c.new-sheet.result) (entered c.read.new.sheet) c.in_ok-accepted.accepted read.answer read.entered
+    ∙ ap (λ n. examining t b (reading t n c.args.bytes.now)) full in
+    let e = c.certify_accepted.ensures in
+    record { answer = e.answer ∙ ap (λ (x : Examined). x.answer) same; written = e.written ∙ ap (λ (x : Examined). x.buffers) same; lenders = e.lenders }
 
-pub returns-in_err-accepted-clause-comes : goal.returns-in_err-accepted-clause-comes
-returns-in_err-accepted-clause-comes g c =
+pub returns-in_err-accepted : goal.returns-in_err-accepted
+returns-in_err-accepted g c =
+    let t = g.I.Item in
     let b = held c.args.buffers.now in
-    let o = reading g.I.Item (room c.new-sheet.result) c.args.bytes.now in
-    let fault = c.in_err-accepted.field-0.0 in
-    let full : room c.new-sheet.result ≡ 1024 = search rules in
-    let same = ap (λ n. examining g.I.Item b (reading g.I.Item n c.args.bytes.now)) full in
-    let p = err_from_is_err_and c.from_residual-in_err-accepted.result c.from_residual-in_err-accepted.ensures.1 in
-    let r = refused_examined g.I.Item b o fault c.in_err-accepted.ensures.answer in
-    rw (p.1, p.2) (sym (ap (λ (x : Examined). x.answer) same) ∙ r.0, r.1 ∙ ap (λ (x : Examined). x.buffers) same)
+    let o = reading t (room c.new-sheet.result) c.args.bytes.now in
+    let full : room c.new-sheet.result ≡ min (length c.args.records.now) 1024 = search rules in
+    let same = ap (λ n. examining t b (reading t n c.args.bytes.now)) full in
+    let p = err_from_is_err_and c.from_residual.result c.from_residual.ensures.1 in
+    let r = refused_examined t b o c.in_err-accepted.field-0.0 c.in_err-accepted.ensures.answer in
+    record {
+      answer = p.1 ∙ ap Err p.2 ∙ sym r.0 ∙ ap (λ (x : Examined). x.answer) same;
+      written = r.1 ∙ ap (λ (x : Examined). x.buffers) same;
+      lenders = (refl, refl, refl);
+    }

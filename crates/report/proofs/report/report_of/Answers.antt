@@ -29,7 +29,7 @@ returns-in-Ok g c =
     let e = c.in-Ok.ensures in
     let full : room c.new-sheet.result ≡ 1024 = search rules in
     let o = reading g.I.Item (room c.new-sheet.result) c.args.bytes.now in
-    c.in_ok-examined-in-Ok.ensures
+    c.in_ok-report_of_accepted-in-Ok.ensures
     ∙ examined_said t o (entered c.new-sheet.result) (entered c.copy.new.sheet) (length c.as_mut_slice-2.result.now) c.in-Ok.accepted e.answer e.entered
     ∙ ap (λ n. saying t (reading t n c.args.bytes.now)) full
 
@@ -43,6 +43,6 @@ returns g c =
     let bytes = bytes_of_type c.args.bytes.now c.type_inv.bytes in
     let o = reading g.I.Item (room c.new-sheet.result) c.args.bytes.now in
     let said =
-    fault_said t o (length mem) c.in-Err.fault c.faulted.result c.in-Err.ensures.answer
-    (λ w e. always_written t (lawful g.met.I.Item) (room c.new-sheet.result) bs bytes o refl w (e ∙ ap (λ n. copying n o) size)) c.faulted.ensures in
-    MatchResult-weaker c.faulted.result said (λ p e. e ∙ ap (λ n. saying t (reading t n bs)) full) (λ f e. e)
+    fault_said t o (length mem) c.in-Err.fault c.report_of_fault.result c.in-Err.ensures.answer
+    (λ w e. always_written t (lawful g.met.I.Item) (room c.new-sheet.result) bs bytes o refl w (e ∙ ap (λ n. copying n o) size)) c.report_of_fault.ensures in
+    MatchResult-weaker c.report_of_fault.result said (λ p e. e ∙ ap (λ n. saying t (reading t n bs)) full) (λ f e. e)

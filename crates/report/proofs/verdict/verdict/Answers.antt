@@ -3,7 +3,7 @@ use Rattle.std.proofs.lemmas.List.{length-replicate}
 use Rattle.std.proofs.lemmas.Result.{IfOk-weaker}
 use Rattle.sheet.specs.Sheets.{entered}
 use Rattle.calls.specs.Rules.{Buffers}
-use Rattle.docket.specs.Lent.{held}
+use Rattle.docket.specs.Buffers.{held}
 use Rattle.report.specs.Reports.{verdict_in, verdict_of_order}
 use Rattle.report.proofs.Verdicts.{order_said, granted_exactly}
 use Rattle.report.proofs.verdict.verdict.Goals as goal

@@ -4,10 +4,10 @@ use Rattle.sheet.proofs.Fills.{loan_same, loan_twice}
 use Rattle.sheet.specs.Sheets.{entered, room}
 use Rattle.frame.specs.Layout.{record_count}
 use Rattle.frame.proofs.RecordPlaces.{length_records}
-use Rattle.trace.specs.Reading.{run}
-use Rattle.trace.specs.Reading.Run.{going}
+use Rattle.trace.specs.Reading.{records_taken}
+use Rattle.trace.specs.Reading.RecordsTaken.{going}
 use Rattle.trace.specs.Answers.{left_after}
-use Rattle.trace.proofs.Runs.{placed, turn, turned_away}
+use Rattle.trace.proofs.RecordsTaken.{with_place, turn, turn_refused}
 use Rattle.trace.proofs.read.take_all.Goals as goal
 
 pub loop-place-init : goal.loop-place-init
@@ -25,10 +25,10 @@ returns-in_err-map_err g c =
     let e = c.take_record.ensures in
     let v = c.loop-place.invariant in
     let p = err_from_is_err_and c.from_residual.result c.from_residual.ensures.1 in
-    let q : c.map_err.result ≡ placed c.loop-place.place c.take_record.result = search rules in
+    let q : c.map_err.result ≡ with_place c.loop-place.place c.take_record.result = search rules in
     rw (p.1, p.2) (record {
-      run =
-          turned_away g.I.Item (room c.args.sheet.now) c.args.trace.now.bytes.now c.loop-place.place (room s) c.records-rec-items.result.now (entered s) (entered fin)
+      taken =
+          turn_refused g.I.Item (room c.args.sheet.now) c.args.trace.now.bytes.now c.loop-place.place (room s) c.records-rec-items.result.now (entered s) (entered fin)
           c.take_record.result c.records-rec-items.ensures c.loop-place-test.true v.taken v.loan.room e.step c.in_err-map_err.field-0.0 (sym q ∙ c.in_err-map_err.was);
       loan = loan_twice c.args.sheet.now s fin v.loan e.loan e.grows;
     })
@@ -39,7 +39,7 @@ loop-place-preserved g c =
     let fin = c.take_record.new.sheet in
     let e = c.take_record.ensures in
     let v = c.loop-place.invariant in
-    let q : c.map_err.result ≡ placed c.loop-place.place c.take_record.result = search rules in
+    let q : c.map_err.result ≡ with_place c.loop-place.place c.take_record.result = search rules in
     record {
       taken =
           turn g.I.Item (room c.args.sheet.now) c.args.trace.now.bytes.now c.loop-place.place (room s) c.records-rec-items.result.now (entered s) (entered fin)
@@ -54,4 +54,4 @@ returns g c =
     let v = c.loop-place.invariant in
     let l = ap length c.records-rec-items.ensures ∙ length_records bs in
     let e : record_count c.args.trace.now.bytes.now ≡ c.loop-place.place = omega arith in
-    record { run = ap (run g.I.Item (room c.args.sheet.now) bs) e ∙ v.taken; loan = v.loan }
+    record { taken = ap (records_taken g.I.Item (room c.args.sheet.now) bs) e ∙ v.taken; loan = v.loan }

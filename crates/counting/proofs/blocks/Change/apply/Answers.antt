@@ -1,7 +1,7 @@
 use Rattle.std.proofs.Common.{◌+◌, ◌-◌, get_or, arith, length-set}
 use Rattle.counting.specs.Blocks.{block, worth}
-use Rattle.counting.specs.Sums.{from_on, from_off}
-use Rattle.counting.proofs.Chains.{walk_start, walk_more}
+use Rattle.counting.specs.Sums.{counted_from_on, counted_from_off}
+use Rattle.counting.proofs.BlocksWithPosition.{walk_start, walk_more}
 use Rattle.counting.proofs.blocks.Change.apply.Goals as goal
 
 pub loop-p-init : goal.loop-p-init
@@ -16,8 +16,8 @@ loop-p-preserved c =
     let more = worth c.args.self.now.after in
     let p = c.loop-p.p in
     let i = c.loop-p.invariant.1 in
-    let on = from_on q less p i.past in
-    let off = from_off q less (p - block p) i.has in
+    let on = counted_from_on q less p i.past in
+    let off = counted_from_off q less (p - block p) i.has in
     let read = i.rest p (omega arith) in
     let enough = c.requires.enough p (omega arith) (omega arith) in (
       simp length-set c.loop-p.invariant.0,

@@ -1,6 +1,6 @@
 use Rattle.std.proofs.Common.{◌≡◌, ◌+◌, ◌-◌, length}
 use Rattle.counting.specs.Blocks.{worth}
-use Rattle.counting.proofs.Chains.{Walked}
+use Rattle.counting.proofs.BlocksWithPosition.{Walked}
 use Rattle.counting.proofs.blocks.Change.apply.Given as goal
 
 abbrev pub invariant-loop-p : goal.invariant-loop-p

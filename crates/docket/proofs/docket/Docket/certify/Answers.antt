@@ -1,5 +1,5 @@
 use Rattle.docket.proofs.Certified.{cert_missing, cert_short, cert_ok, cert_written}
-use Rattle.docket.specs.Lent.{held}
+use Rattle.docket.specs.Buffers.{held}
 use Rattle.docket.proofs.docket.Docket.certify.Goals as goal
 
 pub returns-in-Some-clause-answer : goal.returns-in-Some-clause-answer

@@ -3,7 +3,7 @@ use Rattle.std.proofs.lemmas.List.{take_all}
 use Rattle.giving.proofs.Counts.{below_at}
 use Rattle.docket.specs.Kept.{entry_of}
 use Rattle.docket.specs.Moves.{with_late, changed_all}
-use Rattle.docket.proofs.Turns.{changed_step}
+use Rattle.docket.proofs.Table.{changed_step}
 use Rattle.docket.proofs.docket.parts.change_each.Goals as goal
 
 pub loop-code-init : goal.loop-code-init

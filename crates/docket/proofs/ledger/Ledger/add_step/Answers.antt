@@ -3,7 +3,7 @@ use Rattle.std.proofs.lemmas.List.{map-set}
 use Rattle.giving.specs.Lists.{Once}
 use Rattle.docket.specs.declared.step.Step.{Step}
 use Rattle.docket.specs.Moves.{with_flag, changed_at}
-use Rattle.docket.specs.Kept.{numbers_in, Known, Flagged}
+use Rattle.docket.specs.Kept.{numbers_in, StepsAreOperations, Flagged}
 use Rattle.docket.proofs.PlacedSteps.{known_added, once_added, flagged_added}
 use Rattle.docket.proofs.Awaiting.{awaits_flag}
 use Rattle.docket.proofs.Placing.{long_numbers, unmarked, has_room}
@@ -21,9 +21,9 @@ invariant_of-self c =
     let h : l.placed < length (numbers_in l.steps) = omega (arith, long_numbers l) in
     let s : set (numbers_in l.steps) l.placed x ≡ numbers_in (set l.steps l.placed (record { operation = x; rank = c.args.rank })) = sym (map-set (λ (s : Step). s.operation) l.steps l.placed (record { operation = x; rank = c.args.rank })) in
     record {
-      full = (simp length-set l.full.0, simp length-set l.full.1);
-      few = (omega arith, l.few.1);
-      known = subst (λ (ss : List ℕ). Known l.count ss (l.placed + 1)) s (known_added (numbers_in l.steps) l.placed x h l.count l.known c.requires.within);
+      lengths = (simp length-set l.lengths.0, simp length-set l.lengths.1);
+      counts_fit = (omega arith, l.counts_fit.1);
+      known = subst (λ (ss : List ℕ). StepsAreOperations l.count ss (l.placed + 1)) s (known_added (numbers_in l.steps) l.placed x h l.count l.known c.requires.within);
       once = subst (λ (ss : List ℕ). Once (take (l.placed + 1) ss)) s (once_added (numbers_in l.steps) l.placed x h l.once z);
       flagged = subst (λ (ss : List ℕ). Flagged (changed_at (with_flag true) l.entries x) l.count ss (l.placed + 1)) s (flagged_added (numbers_in l.steps) l.placed x h l.entries l.count (omega arith) l.flagged);
       ends = awaits_flag true l.awaited.least _ l.count x l.entries (omega arith) c.set.ensures.own c.set.ensures.others l.ends;

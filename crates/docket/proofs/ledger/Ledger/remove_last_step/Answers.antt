@@ -22,8 +22,8 @@ invariant_of-self c =
     let is = number_at l (l.placed - 1) (omega arith) in
     let xn = last_known l c.requires in
     record {
-      full = (simp length-set l.full.0, l.full.1);
-      few = (omega arith, l.few.1);
+      lengths = (simp length-set l.lengths.0, l.lengths.1);
+      counts_fit = (omega arith, l.counts_fit.1);
       known = (λ i il. l.known i (omega arith));
       once = once_removed (numbers_in l.steps) l.placed _ c.requires (omega (arith, long_numbers l)) is l.once;
       flagged = flagged_removed (numbers_in l.steps) l.placed _ c.requires (omega (arith, long_numbers l)) is l.entries l.count (omega arith) l.once l.flagged;

@@ -8,8 +8,8 @@ use Rattle.docket.specs.Pairs.{paired_of, paired_all}
 use Rattle.docket.proofs.Entered.{none_late, none_placed, table_is}
 use Rattle.docket.proofs.ledger.copying.copied.Goals as goal
 
-pub invariant_of-result-clause-full : goal.invariant_of-result-clause-full
-invariant_of-result-clause-full g c = (c.from_fn-entries.ensures.items.long, refl)
+pub invariant_of-result-clause-lengths : goal.invariant_of-result-clause-lengths
+invariant_of-result-clause-lengths g c = (c.from_fn-entries.ensures.items.long, refl)
 
 pub invariant_of-result-clause-flagged : goal.invariant_of-result-clause-flagged
 invariant_of-result-clause-flagged g c =

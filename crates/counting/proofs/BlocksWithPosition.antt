@@ -2,14 +2,14 @@
 use Rattle.std.proofs.Common.{◌≡◌, ℕ, ◌+◌, ◌-◌, ◌<◌, ◌≤◌, ◌≢◌, List, length, get_or, set, refl, ⊎_elim, arith}
 use Rattle.std.proofs.lemmas.List.{get_or-set_same, get_or-set_other}
 use Rattle.std.proofs.lemmas.Bool.{cases_order}
-use Rattle.counting.specs.Blocks.{block, from}
-use Rattle.counting.specs.Lows.{block_le, block_some, block_inside, block_next}
-use Rattle.counting.specs.Sums.{from_on, from_off}
+use Rattle.counting.specs.Blocks.{block, counted_from}
+use Rattle.counting.specs.LowestBit.{block_le, block_some, block_inside, block_next}
+use Rattle.counting.specs.Sums.{counted_from_on, counted_from_off}
 
 module _ (q less more : ℕ) where
   -- the sum x at position k became y as position q changed
   abbrev pub Moved : ℕ → ℕ → ℕ → Type 0
-  Moved k x y = y + (from q less k + from q more (k - block k)) ≡ x + (from q more k + from q less (k - block k))
+  Moved k x y = y + (counted_from q less k + counted_from q more (k - block k)) ≡ x + (counted_from q more k + counted_from q less (k - block k))
 
   -- changed up to p: the sums before it are up to date, and those from it on are as they were
   pub record Walked (p : ℕ) (old new : List ℕ) : Type 0 where
@@ -24,19 +24,19 @@ module _ (q less more : ℕ) where
     past = omega arith;
     near = omega arith;
     has = let b = block_some q in omega arith;
-    done = λ k k0 kp k1. omega (arith, from_off q less k kp, from_off q more k kp, from_off q less (k - block k) (omega arith), from_off q more (k - block k) (omega arith));
+    done = λ k k0 kp k1. omega (arith, counted_from_off q less k kp, counted_from_off q more k kp, counted_from_off q less (k - block k) (omega arith), counted_from_off q more (k - block k) (omega arith));
     rest = λ k h. refl;
   }
 
   -- at p itself
   pub here : (x y p : ℕ) → q ≤ p → p - block p < q → y + less ≡ x + more → Moved p x y
-  here x y p on off e = omega (arith, from_on q less p on, from_on q more p on, from_off q less (p - block p) off, from_off q more (p - block p) off)
+  here x y p on off e = omega (arith, counted_from_on q less p on, counted_from_on q more p on, counted_from_off q less (p - block p) off, counted_from_off q more (p - block p) off)
 
   -- a block that ends between p and the end of the next block with q has not q
   skipped : (x p k : ℕ) → 0 < q → q ≤ p → p ≤ 1024 → p < k → k < p + block p → Moved k x x
   skipped x p k s on w a b =
       let i = block_inside p k (omega arith) (omega arith) a b in
-      omega (arith, from_on q less k (omega arith), from_on q more k (omega arith), from_on q less (k - block k) (omega arith), from_on q more (k - block k) (omega arith))
+      omega (arith, counted_from_on q less k (omega arith), counted_from_on q more k (omega arith), counted_from_on q less (k - block k) (omega arith), counted_from_on q more (k - block k) (omega arith))
 
   pub walk_more : (p v : ℕ) (old new : List ℕ) → 0 < q → p ≤ 1024 → p < length new → v + less ≡ get_or old p 0 + more → Walked p old new → Walked (p + block p) old (set new p v)
   walk_more p v old new s w l e g =

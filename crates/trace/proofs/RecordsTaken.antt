@@ -19,8 +19,8 @@ use Rattle.trace.specs.declared.fault.RefusedRecord.{RefusedRecord}
 use Rattle.frame.specs.Layout.{record_count, record_at, records_in}
 use Rattle.frame.proofs.RecordPlaces.{length_records, record_in_turn}
 use Rattle.trace.specs.Answers.{left_at, left_after}
-use Rattle.trace.specs.Reading.{Run, if_entered, if_decoded, after_record, taken, next, run}
-use Rattle.trace.specs.Reading.Run.{going, stopped}
+use Rattle.trace.specs.Reading.{RecordsTaken, if_entered, if_decoded, after_record, operation_taken, after_next, records_taken}
+use Rattle.trace.specs.Reading.RecordsTaken.{going, stopped}
 use Rattle.trace.proofs.Entries.{Enters, enters_push}
 
 -- as many bytes for each
@@ -39,44 +39,44 @@ record_add bs i =
     ∙ ap (λ z. take (24 * i) (drop 8 bs) ++ take 24 z) (drop-drop (24 * i) 8 bs)
 
 -- a record's answer, with the place where it is refused
-abbrev pub placed : ℕ → Result (Unit {0}) EntryFault → Result (Unit {0}) RefusedRecord
-placed i = result_map_both (λ u. u) (λ e. record { place = i; fault = e })
+abbrev pub with_place : ℕ → Result (Unit {0}) EntryFault → Result (Unit {0}) RefusedRecord
+with_place i = result_map_both (λ u. u) (λ e. record { place = i; fault = e })
 
-left_placed : {I : Type 0} (i : ℕ) (r : Result (Unit {0}) EntryFault) (os : List (Operation I)) → left_at i r os ≡ left_after (placed i r) os
-left_placed i (Ok u) os = refl
-left_placed i (Err e) os = refl
+left_with_place : {I : Type 0} (i : ℕ) (r : Result (Unit {0}) EntryFault) (os : List (Operation I)) → left_at i r os ≡ left_after (with_place i r) os
+left_with_place i (Ok u) os = refl
+left_with_place i (Err e) os = refl
 
 module _ {I : Type 0} (t : Ghosts I) (room : ℕ) (bs : List ℕ) where
   -- once stopped, always stopped
-  stays : (d i j : ℕ) (os : List (Operation I)) (e : EntryFault) → run t room bs i ≡ stopped os j e → run t room bs (d + i) ≡ stopped os j e
-  stays zero i j os e p = ap (run t room bs) (zero-add i) ∙ p
+  stays : (d i j : ℕ) (os : List (Operation I)) (e : EntryFault) → records_taken t room bs i ≡ stopped os j e → records_taken t room bs (d + i) ≡ stopped os j e
+  stays zero i j os e p = ap (records_taken t room bs) (zero-add i) ∙ p
   stays (suc d) i j os e p =
       let q = stays d i j os e p in
-      ap (run t room bs) (suc-add d i) ∙ ap (next t room bs (d + i)) q
+      ap (records_taken t room bs) (suc-add d i) ∙ ap (after_next t room bs (d + i)) q
 
   -- one more record
-  one_more : (i : ℕ) (os : List (Operation I)) (rec : List ℕ) (r : Run I) → run t room bs i ≡ going os → rec ≡ record_at i bs →
-      after_record os i (taken t room os rec) ≡ r → run t room bs (i + 1) ≡ r
+  one_more : (i : ℕ) (os : List (Operation I)) (rec : List ℕ) (r : RecordsTaken I) → records_taken t room bs i ≡ going os → rec ≡ record_at i bs →
+      after_record os i (operation_taken t room os rec) ≡ r → records_taken t room bs (i + 1) ≡ r
   one_more i os rec r p q s =
-      ap (run t room bs) (add-one i) ∙ ap (next t room bs i) p ∙ ap (λ z. after_record os i (taken t room os z)) (sym q) ∙ s
+      ap (records_taken t room bs) (add-one i) ∙ ap (after_next t room bs i) p ∙ ap (λ z. after_record os i (operation_taken t room os z)) (sym q) ∙ s
 
   -- a turn of the loop over the records, on a sheet whose room is as it was
   module _ (i room' : ℕ) (recs : List (List ℕ)) (os fin : List (Operation I)) (r : Result (Unit {0}) EntryFault) (all : recs ≡ records_in bs)
-      (inside : i < length recs) (before : run t room bs i ≡ going os) (same : room' ≡ room)
-      (step : (j : ℕ) → after_record os j (taken t room' os (get_or recs i [])) ≡ left_at j r fin) where
+      (inside : i < length recs) (before : records_taken t room bs i ≡ going os) (same : room' ≡ room)
+      (step : (j : ℕ) → after_record os j (operation_taken t room' os (get_or recs i [])) ≡ left_at j r fin) where
     counted : i < record_count bs
     counted = let l = ap length all ∙ length_records bs in omega arith
 
-    pub turn : run t room bs (i + 1) ≡ left_after (placed i r) fin
+    pub turn : records_taken t room bs (i + 1) ≡ left_after (with_place i r) fin
     turn =
         let here = ap (λ rs. get_or rs i []) all ∙ record_in_turn i bs [] counted in
-        one_more i os (get_or recs i []) (left_after (placed i r) fin) before here (ap (λ m. after_record os i (taken t m os (get_or recs i []))) (sym same) ∙ step i ∙ left_placed i r fin)
+        one_more i os (get_or recs i []) (left_after (with_place i r) fin) before here (ap (λ m. after_record os i (operation_taken t m os (get_or recs i []))) (sym same) ∙ step i ∙ left_with_place i r fin)
 
-    pub turned_away : (e : RefusedRecord) → placed i r ≡ Err e → run t room bs (record_count bs) ≡ stopped fin e.place e.fault
-    turned_away e p =
+    pub turn_refused : (e : RefusedRecord) → with_place i r ≡ Err e → records_taken t room bs (record_count bs) ≡ stopped fin e.place e.fault
+    turn_refused e p =
         let n = record_count bs in
         let k : record_count bs - (i + 1) + (i + 1) ≡ record_count bs = let h = counted in omega arith in
-        ap (run t room bs) (sym k) ∙ stays (n - (i + 1)) (i + 1) e.place fin e.fault (turn ∙ ap (λ m. left_after m fin) p)
+        ap (records_taken t room bs) (sym k) ∙ stays (n - (i + 1)) (i + 1) e.place fin e.fault (turn ∙ ap (λ m. left_after m fin) p)
 
 module _ {I : Type 0} (t : Ghosts I) (room : ℕ) where
   entered_back : (os : List (Operation I)) (x op : Operation I) (r : Result ℕ SheetFault) → enter_answer t.number room os x ≡ r → if_entered x r ≡ Ok op →
@@ -100,15 +100,15 @@ module _ {I : Type 0} (t : Ghosts I) (room : ℕ) where
 
 module _ {I : Type 0} (t : Ghosts I) (law : Lawful t) (room : ℕ) (bs : List ℕ) where
   -- what was taken are operations that enter in turn, and the bytes are theirs
-  pub record Took (n : ℕ) (os : List (Operation I)) : Type 0 where
+  pub record AreTaken (n : ℕ) (os : List (Operation I)) : Type 0 where
     pub enters : Enters t room [] os
     pub many : length os ≡ n
     pub bytes : take (24 * n) (drop 8 bs) ≡ flat_map (encode_record t) os
 
-  took_more : (n : ℕ) (os fin : List (Operation I)) → Bytes bs → 8 + 24 * suc n ≤ length bs → Took n os →
-      after_record os n (taken t room os (record_at n bs)) ≡ going fin → Took (suc n) fin
-  took_more n os fin b l k e =
-      let a = after_back t room os fin n (taken t room os (record_at n bs)) e in
+  taken_more : (n : ℕ) (os fin : List (Operation I)) → Bytes bs → 8 + 24 * suc n ≤ length bs → AreTaken n os →
+      after_record os n (operation_taken t room os (record_at n bs)) ≡ going fin → AreTaken (suc n) fin
+  taken_more n os fin b l k e =
+      let a = after_back t room os fin n (operation_taken t room os (record_at n bs)) e in
       let op = a.0 in
       let j = decoded_back t room os op (decode_record t (record_at n bs)) a.1 in
       let byte = bytes_take 24 (drop (8 + 24 * n) bs) (bytes_drop (8 + 24 * n) bs b) in
@@ -125,25 +125,25 @@ module _ {I : Type 0} (t : Ghosts I) (law : Lawful t) (room : ℕ) (bs : List �
             ∙ flat_map_more (encode_record t) [] os op ∙ ap (flat_map (encode_record t)) (sym fin-is);
       }
 
-  next_back : (n : ℕ) (fin : List (Operation I)) (r : Run I) → Bytes bs → 8 + 24 * suc n ≤ length bs →
-      ((os : List (Operation I)) → r ≡ going os → Took n os) → next t room bs n r ≡ going fin → Took (suc n) fin
-  next_back n fin (going os) b l before e = took_more n os fin b l (before os refl) e
+  next_back : (n : ℕ) (fin : List (Operation I)) (r : RecordsTaken I) → Bytes bs → 8 + 24 * suc n ≤ length bs →
+      ((os : List (Operation I)) → r ≡ going os → AreTaken n os) → after_next t room bs n r ≡ going fin → AreTaken (suc n) fin
+  next_back n fin (going os) b l before e = taken_more n os fin b l (before os refl) e
   next_back n fin (stopped os j f) b l before e = absurd cc
 
-  pub run_back : (n : ℕ) (os : List (Operation I)) → Bytes bs → 8 + 24 * n ≤ length bs → run t room bs n ≡ going os → Took n os
-  run_back zero os b l e =
+  pub taken_back : (n : ℕ) (os : List (Operation I)) → Bytes bs → 8 + 24 * n ≤ length bs → records_taken t room bs n ≡ going os → AreTaken n os
+  taken_back zero os b l e =
       let p : [] ≡ os = cc in
       record { enters = subst (Enters t room []) p tt; many = ap length (sym p); bytes = ap (flat_map (encode_record t)) p }
-  run_back (suc n) os b l e = next_back n os (run t room bs n) b l (λ before p. run_back n before b (omega arith) p) e
+  taken_back (suc n) os b l e = next_back n os (records_taken t room bs n) b l (λ before p. taken_back n before b (omega arith) p) e
 
   -- the bytes of operations that enter in turn are taken as those
-  pub run_there : (head rest : List ℕ) (pre ops : List (Operation I)) → length head ≡ 8 →
+  pub taken_there : (head rest : List ℕ) (pre ops : List (Operation I)) → length head ≡ 8 →
       bs ≡ head ++ (flat_map (encode_record t) pre ++ (flat_map (encode_record t) ops ++ rest)) →
-      run t room bs (length pre) ≡ going pre → Enters t room pre ops →
-      run t room bs (length pre + length ops) ≡ going (pre ++ ops)
-  run_there head rest pre [] l e p f =
-      ap (run t room bs) (add-zero (length pre)) ∙ p ∙ ap (λ z. going z) (sym (append-nil pre))
-  run_there head rest pre (op ∷ ops) l e p f =
+      records_taken t room bs (length pre) ≡ going pre → Enters t room pre ops →
+      records_taken t room bs (length pre + length ops) ≡ going (pre ++ ops)
+  taken_there head rest pre [] l e p f =
+      ap (records_taken t room bs) (add-zero (length pre)) ∙ p ∙ ap (λ z. going z) (sym (append-nil pre))
+  taken_there head rest pre (op ∷ ops) l e p f =
       let enc = encode_record t in
       let lp = length_joined enc 24 (length_record t) pre in
       let tail = flat_map enc ops ++ rest in
@@ -151,14 +151,14 @@ module _ {I : Type 0} (t : Ghosts I) (law : Lawful t) (room : ℕ) (bs : List �
       let d : drop (8 + 24 * length pre) bs ≡ enc op ++ tail =
       ap (drop (8 + 24 * length pre)) e₁ ∙ drop_at (head ++ flat_map enc pre) (enc op ++ tail) (8 + 24 * length pre) (rw length-append (omega arith)) in
       let r : record_at (length pre) bs ≡ enc op = ap (take 24) d ∙ take_at (enc op) tail 24 (length_record t op) in
-      let k : taken t room pre (record_at (length pre) bs) ≡ Ok op =
+      let k : operation_taken t room pre (record_at (length pre) bs) ≡ Ok op =
       ap (λ z. if_decoded t room pre (decode_record t z)) r ∙ ap (if_decoded t room pre) (record_there t law op f.0)
       ∙ ap (if_entered op) f.1 in
-      let s : run t room bs (length pre + 1) ≡ going (pre ++ op ∷ []) =
+      let s : records_taken t room bs (length pre + 1) ≡ going (pre ++ op ∷ []) =
       one_more t room bs (length pre) pre (record_at (length pre) bs) (going (pre ++ op ∷ [])) p refl (ap (after_record pre (length pre)) k) in
       let lq = length_push pre op in
       let e₂ : bs ≡ head ++ (flat_map enc (pre ++ op ∷ []) ++ (flat_map enc ops ++ rest)) =
       e ∙ ap (λ z. head ++ z) (simp append_assoc) ∙ ap (λ z. head ++ (z ++ tail)) (flat_map_more enc [] pre op) in
-      let i = run_there head rest (pre ++ op ∷ []) ops l e₂ (ap (run t room bs) lq ∙ s) f.2 in
+      let i = taken_there head rest (pre ++ op ∷ []) ops l e₂ (ap (records_taken t room bs) lq ∙ s) f.2 in
       let n : length pre + length (op ∷ ops) ≡ length (pre ++ op ∷ []) + length ops = omega arith in
-      ap (run t room bs) n ∙ i ∙ ap (λ z. going z) (append_assoc pre (op ∷ []) ops)
+      ap (records_taken t room bs) n ∙ i ∙ ap (λ z. going z) (append_assoc pre (op ∷ []) ops)

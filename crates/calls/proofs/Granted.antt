@@ -1,15 +1,10 @@
 -- A certificate says and writes what it is granted for, and nothing else does. Assumes nothing.
-use Rattle.std.proofs.Common.{◌≡◌, ℕ, zero, suc, ◌+◌, ◌<◌, ◌≤◌, eqb, List, [], ◌∷◌, ◌++◌, map, length, get_or, take, drop, Ok, sym, refl, ap, ◌∙◌, subst, ⊎_elim, zero-add, arith, length-append, length-drop, take-append-drop, length-take-le, get_or-take, ext_get_or, drop_at}
-use lib.ListN.{get_or-append}
+use Rattle.std.proofs.Common.{◌≡◌, ℕ, suc, ◌<◌, ◌≤◌, List, [], ◌∷◌, ◌++◌, length, get_or, take, drop, Ok, sym, refl, ap, ◌∙◌, subst, zero-add, arith, length-append, length-drop, take-append-drop, length-take-le, get_or-take, ext_get_or, drop_at}
 use lib.Seq.{get_or_at, split_at}
 use Rattle.std.specs.List.{AllZip, sum}
-use Rattle.std.proofs.lemmas.List.Recursion.{max_bounds}
-use Rattle.std.proofs.lemmas.List.FromFn.{length-map-range_with_len, get_or-map-range_with_len}
-use Rattle.std.proofs.lemmas.Bool.{cond_both, eqb-false, cases_order, cases_lt}
+use Rattle.std.proofs.lemmas.List.FromFn.{get_or-map-range_with_len}
 use Rattle.giving.specs.Lists.{SeatRule, place}
-use Rattle.giving.proofs.Counts.{times_at}
 use Rattle.giving.proofs.Fronts.{over_at, take_over}
-use Rattle.giving.proofs.Places.{place_some, place_there}
 use Rattle.order.specs.declared.operation.Paired.{Paired}
 use Rattle.calls.specs.declared.certificate.Certificate.{Certificate}
 use Rattle.order.specs.Steps.{operation, rank_error, rank_errors, rank_errors_from, after_step, giving_after, lateness, passings_over}
@@ -17,67 +12,22 @@ use Rattle.order.specs.Times.{Instants, earliest}
 use Rattle.order.specs.Orders.{Placed, TrueOrder}
 use Rattle.order.proofs.AddUp.{add_up}
 use Rattle.order.proofs.Whole.{placed_of_true}
-use Rattle.order.proofs.Earliest.{earliest_admits, earliest_below, length_earliest}
+use Rattle.order.proofs.Earliest.{earliest_below}
+use Rattle.order.proofs.InTime.{earliest_admits}
 use Rattle.order.proofs.Splits.{step_by_step}
 use Rattle.order.proofs.Stretches.{shortest, only}
 use Rattle.giving.specs.Fronts.{over}
 use Rattle.calls.specs.Rules.{Buffers, largest_of, latenesses_of, certificate_of, written}
-use Rattle.calls.specs.Meanings.{Costs, Kept, Largest, Granted}
+use Rattle.calls.specs.Meanings.{Costs, KeptPast, Largest, Granted}
 use Rattle.order.proofs.Growing.{length_ranks, ranks_append}
-use Rattle.calls.proofs.Grants.{Long, sums}
-
--- the largest of a list and its first place
-bounded : (xs : List ℕ) (j : ℕ) → j < length xs → get_or xs j 0 ≤ largest_of xs
-bounded xs j l = max_bounds largest_of (λ (x : ℕ). x) refl (λ _ _. refl) xs j 0 l
-
-attained : (xs : List ℕ) → 0 < length xs → (j : ℕ) × (j < length xs) × (get_or xs j 0 ≡ largest_of xs)
-attained [] l = absurd (omega arith)
-attained (x ∷ []) l = (0, omega arith, omega arith)
-attained (x ∷ (y ∷ xs)) l =
-    let h = attained (y ∷ xs) (omega arith) in
-    ⊎_elim (λ q. (suc h.0, omega arith, omega (arith, h.2))) (λ q. (0, omega arith, omega arith)) (cases_lt x (largest_of (y ∷ xs)))
-
-pub largest_stands : (xs : List ℕ) → 0 < length xs → place (largest_of xs) xs < length xs
-largest_stands xs l = let a = attained xs l in place_some (largest_of xs) xs (times_at (largest_of xs) a.0 xs a.1 a.2)
-
-before_place : (m : ℕ) (xs : List ℕ) (j : ℕ) → j < place m xs → get_or xs j 0 ≡ m → ⊥
-before_place m [] j l e = omega arith
-before_place m (x ∷ xs) zero l e = cond_both (eqb m x) 0 (suc (place m xs)) (λ v. 0 < v → ⊥) (λ q u. omega arith) (λ q u. eqb-false m x q (sym e)) l
-before_place m (x ∷ xs) (suc j) l e = cond_both (eqb m x) 0 (suc (place m xs)) (λ v. suc j < v → ⊥) (λ q u. omega arith) (λ q u. before_place m xs j (omega arith) e) l
-
-none_first : (xs : List ℕ) → length xs ≡ 0 → (largest_of xs ≡ 0) × (place (largest_of xs) xs ≡ 0)
-none_first [] e = (refl, refl)
-none_first (x ∷ xs) e = absurd (omega arith)
-
-largest_is : (xs ys : List ℕ) (n : ℕ) → length xs ≡ n → Largest n (xs ++ ys) (largest_of xs) (place (largest_of xs) xs)
-largest_is xs ys n e =
-    let m : ℕ = largest_of xs in
-    let i : ℕ = place m xs in
-    let at : (j : ℕ) → j < n → get_or (xs ++ ys) j 0 ≡ get_or xs j 0 = λ j l. get_or-append xs ys 0 j (omega arith) in
-    let here : 0 < n → i < n = λ l. omega (arith, largest_stands xs (omega arith)) in
-    record {
-      bound = λ j l. omega (arith, at j l, bounded xs j (omega arith));
-      there = λ l. let h = here l in (h, at i h ∙ place_there m xs (omega arith));
-      first = λ j u. ⊎_elim
-          (λ l. let h = here l in omega (arith, at j (omega arith), bounded xs j (omega arith), before_place m xs j u))
-          (λ l. absurd (omega (arith, none_first xs (omega arith)))) (cases_lt 0 n);
-      none = λ z. none_first xs (omega arith);
-    }
-
-same_largest : (n : ℕ) (xs : List ℕ) (m i m' i' : ℕ) → Largest n xs m i → Largest n xs m' i' → (m ≡ m') × (i ≡ i')
-same_largest n xs m i m' i' h h' =
-    ⊎_elim
-    (λ l. let a = h.there l in let b = h'.there l in
-    let e : m ≡ m' = omega (arith, h.bound i' b.0, h'.bound i a.0) in
-    (e, ⊎_elim (λ q. q) (⊎_elim (λ q. absurd (omega (arith, h'.first i q))) (λ q. absurd (omega (arith, h.first i' q)))) (cases_order i i')))
-    (λ l. let a = h.none (omega arith) in let b = h'.none (omega arith) in (omega (arith, a, b), omega (arith, a, b)))
-    (cases_lt 0 n)
+use Rattle.calls.proofs.Largest.{largest_is, same_largest}
+use Rattle.calls.proofs.Grants.{Long, length_errors, length_instants, length_latenesses, sums}
 
 -- a list over the front of a buffer
-kept : (xs old : List ℕ) (n : ℕ) → length xs ≡ n → n ≤ length old → Kept n old (over xs old)
+kept : (xs old : List ℕ) (n : ℕ) → length xs ≡ n → n ≤ length old → KeptPast n old (over xs old)
 kept xs old n e l = (omega (arith, length-append xs (drop (length xs) old), length-drop (length xs) old), drop_at xs (drop (length xs) old) n e ∙ ap (λ m. drop m old) e)
 
-filled : (xs old new : List ℕ) (n : ℕ) → length xs ≡ n → Kept n old new → take n new ≡ xs → new ≡ over xs old
+filled : (xs old new : List ℕ) (n : ℕ) → length xs ≡ n → KeptPast n old new → take n new ≡ xs → new ≡ over xs old
 filled xs old new n e h t = sym (take-append-drop n new) ∙ (ap (λ (l : List ℕ). l ++ drop n new) t ∙ ap (λ (l : List ℕ). xs ++ l) (h.1 ∙ ap (λ m. drop m old) (sym e)))
 
 front : (xs new : List ℕ) (n : ℕ) → length xs ≡ n → n ≤ length new → ((i : ℕ) → i < n → get_or new i 0 ≡ get_or xs i 0) → take n new ≡ xs
@@ -125,9 +75,9 @@ module _ (seat : SeatRule) (ops : List Paired) (k : ℕ) where
       let E : List ℕ = earliest ops p in
       let S : List ℕ = latenesses_of seat ops p in
       let f : ℕ → ℕ = λ a. lateness seat ops a p in
-      let nR : length R ≡ n = length_ranks seat ops p [] ∙ g.1 in
-      let nE : length E ≡ n = length_earliest ops 0 p ∙ g.1 in
-      let nS : length S ≡ n = length-map-range_with_len f 0 n in
+      let nR : length R ≡ n = length_errors seat ops k p t in
+      let nE : length E ≡ n = length_instants seat ops k p t in
+      let nS : length S ≡ n = length_latenesses seat ops k p in
       let tE : take n (over E b.instants) ≡ E = take_over E b.instants n nE in
       let all : sum R ≡ passings_over seat ops p = add_up seat ops k p g.0 in
       let parts = sums seat ops k p t b in
@@ -136,7 +86,7 @@ module _ (seat : SeatRule) (ops : List Paired) (k : ℕ) where
         room = room;
         errors_by_step = λ u v x e.
             subst (Costs seat ops u x) (sym (over_at R b.ranks (length u) (omega (arith, before p u v x e, nR, g.1)))) (costs_at p u v x g.0 e);
-        instants = subst (Instants ops p) (sym tE) (earliest_admits ops 0 0 p t.timed.instants.0 (omega arith) t.timed.instants.1);
+        instants = subst (Instants ops p) (sym tE) (earliest_admits ops p t.timed.instants.0 t.timed.instants.1);
         least = λ ts i. subst (λ (l : List ℕ). AllZip ◌≤◌ l ts) (sym tE) (earliest_below ops 0 0 p ts (omega arith) i);
         latenesses = λ a l. over_at S b.latenesses a (omega (arith, nS)) ∙ get_or-map-range_with_len f 0 n a a 0 l (zero-add a);
         rest = (kept R b.ranks n nR room.0, kept E b.instants n nE room.1, kept S b.latenesses n nS room.2);
@@ -157,9 +107,9 @@ module _ (seat : SeatRule) (ops : List Paired) (k : ℕ) where
       let E : List ℕ = earliest ops p in
       let S : List ℕ = latenesses_of seat ops p in
       let f : ℕ → ℕ = λ a. lateness seat ops a p in
-      let nR : length R ≡ n = length_ranks seat ops p [] ∙ g.1 in
-      let nE : length E ≡ n = length_earliest ops 0 p ∙ g.1 in
-      let nS : length S ≡ n = length-map-range_with_len f 0 n in
+      let nR : length R ≡ n = length_errors seat ops k p t in
+      let nE : length E ≡ n = length_instants seat ops k p t in
+      let nS : length S ≡ n = length_latenesses seat ops k p in
       let each-rank : (i : ℕ) → i < n → get_or w.ranks i 0 ≡ get_or R i 0 = λ i l.
       let u : List ℕ = take i p in
       let x : ℕ = get_or p i 0 in
@@ -172,7 +122,7 @@ module _ (seat : SeatRule) (ops : List Paired) (k : ℕ) where
       let wR : w.ranks ≡ over R b.ranks = filled R b.ranks w.ranks n nR G.rest.0 (front R w.ranks n nR (omega arith) each-rank) in
       let wE : w.instants ≡ over E b.instants =
       filled E b.instants w.instants n nE G.rest.1
-      (both_least (take n w.instants) E (G.least E (earliest_admits ops 0 0 p t.timed.instants.0 (omega arith) t.timed.instants.1))
+      (both_least (take n w.instants) E (G.least E (earliest_admits ops p t.timed.instants.0 t.timed.instants.1))
       (earliest_below ops 0 0 p (take n w.instants) (omega arith) G.instants)) in
       let wS : w.latenesses ≡ over S b.latenesses =
       filled S b.latenesses w.latenesses n nS G.rest.2

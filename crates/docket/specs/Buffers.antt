@@ -1,17 +1,20 @@
--- Buffers that are lent, and those that lend them. Assumes nothing.
-use Rattle.std.specs.Prelude.{◌≡◌, vec_items}
+-- What buffers hold: those that are lent, and those that lend them. Assumes nothing.
+use Rattle.std.specs.Prelude.{◌≡◌, ℕ, List, vec_items}
 use Rattle.calls.specs.Rules.{Buffers}
 use Rattle.docket.specs.declared.buffers.Buffers.{Buffers as Lent}
 use Rattle.docket.specs.declared.buffers.OwnBuffers.{OwnBuffers}
-use Rattle.docket.specs.InAgreement.{three}
+
+-- three lists as what three buffers hold
+abbrev pub buffers_of : List ℕ → List ℕ → List ℕ → Buffers
+buffers_of r i t = record { ranks = r; instants = i; latenesses = t }
 
 -- what the lent ones hold
 abbrev pub held : Lent → Buffers
-held b = three b.ranks.now b.instants.now b.latenesses.now
+held b = buffers_of b.ranks.now b.instants.now b.latenesses.now
 
 -- what the lenders hold
 abbrev pub owned : OwnBuffers → Buffers
-owned b = three (vec_items b.ranks) (vec_items b.instants) (vec_items b.latenesses)
+owned b = buffers_of (vec_items b.ranks) (vec_items b.instants) (vec_items b.latenesses)
 
 -- the slices that c holds are those that b held
 abbrev pub SameSlices : Lent → Lent → Type 0

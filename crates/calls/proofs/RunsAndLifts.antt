@@ -12,7 +12,7 @@ use Rattle.order.specs.Steps.{operation, after_step, giving_after}
 use Rattle.order.specs.Orders.{Acceptable, PlacedFrom, TrueOrder}
 use Rattle.order.proofs.Splits.{same_times}
 use Rattle.order.proofs.Whole.{placed_of_true}
-use Rattle.calls.specs.Rules.{place_answer, Run, run_of, lift_answer, without_last}
+use Rattle.calls.specs.Rules.{place_answer, Run, unless_refused, run_of, lift_answer, without_last}
 use Rattle.calls.specs.Meanings.{Refused, Placing, InTurn}
 use Rattle.calls.proofs.Judged.{judged, accepted, answer_is}
 use Rattle.order.proofs.Growing.{giving_append}
@@ -70,7 +70,7 @@ module _ (seat : SeatRule) (ops : List Paired) (k : ℕ) where
   pub outcome : (xs p : List ℕ) (m : ℕ) → Outcome p m xs (run_of seat ops k p m xs)
   outcome [] p m = inl (tt, rw (append-nil, add-zero))
   outcome (x ∷ xs) p m =
-      let R : Result ℕ DocketFault → Run = λ a. elim a [ Ok r ↦ run_of seat ops k (p ++ (x ∷ [])) (suc m) xs | Err e ↦ record { steps = p; new = m; stopped = Some e } ] in
+      let R : Result ℕ DocketFault → Run = λ a. unless_refused p m a (run_of seat ops k (p ++ (x ∷ [])) (suc m) xs) in
       elim (place_answer seat ops k p x) as (λ a. Placing seat ops k p x a → Outcome p m (x ∷ xs) (R a)) [
         | Ok r ↦ λ g. more p xs m x (R (Ok r)) g.0 (outcome xs (p ++ (x ∷ [])) (suc m))
         | Err e ↦ λ g. inr ([], x, xs, e, refl, tt, subst (λ (l : List ℕ). Refused seat ops k l x e) (sym (append-nil p)) g, rw (append-nil, add-zero))
@@ -80,7 +80,7 @@ module _ (seat : SeatRule) (ops : List Paired) (k : ℕ) where
   run_on : (us p rest : List ℕ) (m : ℕ) → InTurn seat ops k p us → run_of seat ops k p m (us ++ rest) ≡ run_of seat ops k (p ++ us) (m + length us) rest
   run_on [] p rest m h = rw (append-nil, add-zero)
   run_on (x ∷ us) p rest m h =
-      let R : Result ℕ DocketFault → Run = λ a. elim a [ Ok r ↦ run_of seat ops k (p ++ (x ∷ [])) (suc m) (us ++ rest) | Err e ↦ record { steps = p; new = m; stopped = Some e } ] in
+      let R : Result ℕ DocketFault → Run = λ a. unless_refused p m a (run_of seat ops k (p ++ (x ∷ [])) (suc m) (us ++ rest)) in
       let j : (p ++ (x ∷ [])) ++ us ≡ p ++ (x ∷ us) = append_assoc p (x ∷ []) us in
       let n : suc m + length us ≡ m + suc (length us) = omega arith in
       ap R (accepted seat ops k p x h.0) ∙ (run_on us (p ++ (x ∷ [])) rest (suc m) h.1 ∙ cc)
@@ -94,7 +94,7 @@ module _ (seat : SeatRule) (ops : List Paired) (k : ℕ) where
       → run_of seat ops k p 0 (us ++ (x ∷ vs)) ≡ record { steps = p ++ us; new = length us; stopped = Some e }
   ran_until_is us p x vs e h g =
       let z : 0 + length us ≡ length us = zero-add (length us) in
-      let R : Result ℕ DocketFault → Run = λ a. elim a [ Ok r ↦ run_of seat ops k ((p ++ us) ++ (x ∷ [])) (suc (0 + length us)) vs | Err e ↦ record { steps = p ++ us; new = 0 + length us; stopped = Some e } ] in
+      let R : Result ℕ DocketFault → Run = λ a. unless_refused (p ++ us) (0 + length us) a (run_of seat ops k ((p ++ us) ++ (x ∷ [])) (suc (0 + length us)) vs) in
       run_on us p (x ∷ vs) 0 h ∙ (ap R (answer_is seat ops k (p ++ us) x (Err e) g) ∙ cc)
 
   -- ---- the steps of a placed order may come next in turn

@@ -1,8 +1,9 @@
 -- The holder after steps that the rules accept. Assumes nothing.
-use Rattle.std.proofs.Common.{◌≡◌, ℕ, ◌+◌, ◌<◌, ◌≤◌, true, false, eqb, leb, List, [], ◌∷◌, length, is_ok, refl, ap, ◌∙◌, arith}
+use Rattle.std.proofs.Common.{◌≡◌, ℕ, ◌+◌, ◌<◌, ◌≤◌, true, false, leb, List, [], ◌∷◌, length, is_ok, refl, ap, ◌∙◌, arith}
 use Rattle.std.specs.List.{AllByRecursion}
-use Rattle.std.proofs.lemmas.Bool.{eq-eqb, lt-leb, le-ltb, cond-true}
+use Rattle.std.proofs.lemmas.Bool.{lt-leb, le-ltb, cond-true}
 use Rattle.giving.specs.Lists.{SeatRule, times, without, stands}
+use Rattle.giving.proofs.Counts.{times_here}
 use Rattle.giving.proofs.Places.{place_absent}
 use Rattle.order.specs.declared.operation.Deed.{Deed}
 use Rattle.order.specs.declared.operation.Deed.TheVariants.{Add, Take, TakeOfNone, FoundEmpty}
@@ -35,17 +36,17 @@ stepped_after seat x TakeOfNone L n h z l = let e : n ≡ n + 0 = omega arith in
 stepped_after seat x FoundEmpty L n h z l = let e : n ≡ n + 0 = omega arith in ap (λ (m : ℕ). record { list = L; count = m }) e
 
 module _ (seat : SeatRule) (es : List Entry) (ops : List Paired) where
-  -- an operation of the table does what that of the list does
-  abbrev pub Sane : ℕ → Type 0
-  Sane x = (x < 1024) × ((entry_of es x).paired.deed ≡ (operation ops x).deed)
+  -- the operation x is of the table, and does there what it does among the operations
+  abbrev pub DeedAgrees : ℕ → Type 0
+  DeedAgrees x = (x < 1024) × ((entry_of es x).paired.deed ≡ (operation ops x).deed)
 
-  pub replayed_held : (p L : List ℕ) (n : ℕ) → AllByRecursion Sane p → ((y : ℕ) → times y L + times y p ≤ 1) → n + length p ≤ 1024
+  pub replayed_held : (p L : List ℕ) (n : ℕ) → AllByRecursion DeedAgrees p → ((y : ℕ) → times y L + times y p ≤ 1) → n + length p ≤ 1024
       → replayed seat es (record { list = L; count = n }) p ≡ record { list = giving_from seat ops L p; count = n + adds_in ops p }
   unfolding replayed
   replayed_held [] L n all once few = let e : n ≡ n + 0 = omega arith in ap (λ (m : ℕ). record { list = L; count = m }) e
   replayed_held (x ∷ p) L n all once few =
       let d : Deed = (operation ops x).deed in
-      let hit = cond-true {A = ℕ} (eqb x x) 1 0 (eq-eqb x x refl) in
+      let hit = times_here x x p refl in
       let z : times x L ≡ 0 = omega (arith, once x) in
       let s : stepped seat x (entry_of es x).paired.deed (record { list = L; count = n }) ≡ record { list = after_step seat x d L; count = n + items_added d } =
       ap (λ (e : Deed). stepped seat x e (record { list = L; count = n })) all.0.1 ∙ stepped_after seat x d L n all.0.0 z (omega arith) in

@@ -85,14 +85,17 @@ pub block_some : (p : ℕ) → 0 < block p
 unfolding block
 block_some p = some_bit 16 p
 
+-- a block begins at position 1 or after
 pub block_le : (p : ℕ) → 0 < p → p < 65536 → block p ≤ p
 unfolding block
 block_le p s h = bit_le 16 p s h
 
+-- the block that ends as far behind p as p's block is long is at least twice as long
 pub block_next : (p : ℕ) → 0 < p → p < 65536 → 2 * block p ≤ block (p + block p)
 unfolding block
 block_next p s h = bit_next 16 p s h
 
+-- behind p, as far as its block is long, the blocks are as long as from 0 on
 pub block_past : (p j : ℕ) → 0 < j → j < block p → block (p + j) ≡ block j
 unfolding block
 block_past p j s h = bit_past 16 p j s h

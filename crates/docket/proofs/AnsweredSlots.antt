@@ -1,7 +1,8 @@
 -- One slot filled, and one more. Assumes nothing.
 use Rattle.std.proofs.Common.{◌≡◌, ℕ, ◌+◌, ◌<◌, List, [], ◌∷◌, ◌++◌, map, length, get_or, take, drop, set, Result, sym, refl, ap, ◌∙◌, subst, arith}
-use Rattle.std.proofs.lemmas.List.{take_more, take_more_set, map_push, append_assoc, at_drop_more}
+use Rattle.std.proofs.lemmas.List.{with_items_is, take_more, take_more_set, map_push, append_assoc, at_drop_more}
 use Rattle.std.specs.List.{AllZip}
+use Rattle.std.specs.Vec.{with_items}
 use Rattle.std.proofs.lemmas.List.Elements.{AllZip-push}
 use Rattle.giving.specs.Lists.{SeatRule}
 use Rattle.calls.specs.declared.certificate.Certificate.{Certificate}
@@ -11,8 +12,9 @@ use Rattle.order.specs.declared.operation.Paired.{Paired}
 use Rattle.calls.specs.declared.fault.DocketFault.{DocketFault}
 use Rattle.docket.specs.declared.ledger.Ledger.{Ledger}
 use Rattle.docket.specs.InAgreement.{ops_of, steps_of}
-use Rattle.docket.specs.Lent.{owned}
+use Rattle.docket.specs.Buffers.{buffers_of, owned}
 use Rattle.docket.specs.declared.buffers.OwnBuffers.{OwnBuffers}
+use Rattle.docket.proofs.Fronts.{same_buffers}
 use Rattle.calls.proofs.Sessions.{session}
 use Rattle.docket.specs.declared.slot.Slot.TheVariants.{Certify}
 use Rattle.calls.specs.Sessions.{Session}
@@ -20,6 +22,11 @@ use Rattle.docket.specs.Slots.{Keeps, call_of, reply_of}
 
 pub keeps_certify : (s : Slot) (b c : OwnBuffers) (a r : Result Certificate DocketFault) → s ≡ Certify b a → Keeps s (Certify c r)
 keeps_certify s b c a r is = subst (λ (t : Slot). Keeps t (Certify c r)) (sym is) (owned c, refl)
+
+-- what buffers of one's own hold once lists as long are written over them
+pub owned_over : (o : OwnBuffers) (r i t : List ℕ) → length r ≡ o.ranks.len → length i ≡ o.instants.len → length t ≡ o.latenesses.len
+    → owned (record { ranks = with_items o.ranks r; instants = with_items o.instants i; latenesses = with_items o.latenesses t }) ≡ buffers_of r i t
+owned_over o r i t rn inn tn = same_buffers (with_items_is o.ranks r rn) (with_items_is o.instants i inn) (with_items_is o.latenesses t tn)
 
 -- ---- the slots in turn
 module _ (seat : SeatRule) (l m : Ledger) (ys zs : List Slot) (i : ℕ) (y z d : Slot)
