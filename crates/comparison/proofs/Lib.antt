@@ -4,3 +4,5 @@ pub mod Parts
 pub mod Fronts
 pub mod Files
 pub mod Slots
+pub mod ReadBack
+pub mod CallsBack

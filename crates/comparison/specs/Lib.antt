@@ -4,3 +4,4 @@ pub mod Pieces
 pub mod Calls
 pub mod Cases
 pub mod Files
+pub mod Laws

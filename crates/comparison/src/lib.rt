@@ -7,6 +7,7 @@ mod dockets;
 mod hash;
 mod holders;
 mod items;
+pub mod laws;
 mod numbers;
 mod traces;
 mod words;
