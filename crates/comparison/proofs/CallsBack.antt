@@ -1,8 +1,8 @@
 -- Calls that are written are read back, on a holder and on a docket.
-use Rattle.std.proofs.Common.{◌≡◌, ℕ, zero, suc, ◌+◌, ◌*◌, ◌-◌, ◌^◌, ◌<◌, ◌≤◌, Bool, true, false, cond, ◌==◌, nat_lt, List, [], ◌∷◌, ◌++◌, length, take, drop, Some, None, Option, refl, sym, ap, ◌∙◌, append_assoc, arith, length-append, length-take-le, take_at, drop_at, ⊎_elim}
+use Rattle.std.proofs.Common.{◌≡◌, ℕ, zero, suc, ◌+◌, ◌*◌, ◌-◌, ◌^◌, ◌<◌, ◌≤◌, true, false, ◌==◌, nat_lt, List, [], ◌∷◌, ◌++◌, length, take, drop, Some, None, Option, refl, sym, ap, ◌∙◌, append_assoc, arith, length-append, length-take-le, take_at, drop_at, ⊎_elim}
 use Rattle.std.specs.Int.{from_be_bytes, w16}
 use Rattle.std.specs.List.{flat_map}
-use Rattle.std.specs.Option.{option_map}
+use Rattle.std.specs.Option.{option_map, option_and_then}
 use Rattle.std.proofs.lemmas.List.{take-take, drop-take}
 use Rattle.std.proofs.lemmas.Bool.{cases_lt}
 use Rattle.std.proofs.lemmas.Bool.Decides.{nat_tests}
@@ -15,7 +15,7 @@ use Rattle.turns.specs.declared.calls.HolderCall.{HolderCall}
 use Rattle.turns.specs.declared.calls.HolderCall.TheVariants.{Clear, Count, Rank, At, Add, Take}
 use Rattle.calls.specs.Rules.{Buffers}
 use Rattle.calls.specs.Calls.{Call, place, run, lift, certify}
-use Rattle.comparison.specs.Calls.{with_number, call_with_number, front_holder_call, holder_calls, blank_buffers, run_of_numbers, front_docket_call, docket_calls}
+use Rattle.comparison.specs.Calls.{front_number, with_number, call_with_number, front_holder_call, holder_calls, blank_buffers, run_of_numbers, front_docket_call, docket_calls}
 use Rattle.comparison.specs.Laws.{bytes_of_holder_call, HolderCallFits, HolderCallsAreReadBack, bytes_of_docket_call, DocketCallFits, DocketCallsAreReadBack}
 use Rattle.comparison.proofs.Fronts.{all_end, all_behind, holder_shorter, docket_shorter}
 use Rattle.comparison.proofs.ReadBack.{all_read}
@@ -39,6 +39,7 @@ module _ {C : Type 0} (say : ℕ → List ℕ → Option (C × List ℕ)) (n : �
 
   -- what is said of the first of them
   first_number : (rest : List ℕ) → with_number (shorts (n ∷ ns) ++ rest) say ≡ say n (shorts ns ++ rest)
+  unfolding front_number
   first_number rest =
       let long = length_bytes 2 n in
       let enough : nat_lt (length (two ++ (shorts ns ++ rest))) 2 ≡ false = let l = length-append two (shorts ns ++ rest) in grind (arith, nat_tests) in
@@ -46,6 +47,7 @@ module _ {C : Type 0} (say : ℕ → List ℕ → Option (C × List ℕ)) (n : �
 
   -- numbers that are cut off say nothing, where what is left of those behind the first says nothing
   cut_number : (k : ℕ) → k < length (shorts (n ∷ ns)) → ((j : ℕ) → j < length (shorts ns) → say n (take j (shorts ns)) ≡ None) → with_number (take k (shorts (n ∷ ns))) say ≡ None
+  unfolding front_number
   cut_number k less none =
       let long = length_bytes 2 n in
       let there : length (take k (shorts (n ∷ ns))) ≡ k = length-take-le k (shorts (n ∷ ns)) (omega arith) in
@@ -61,9 +63,9 @@ module _ {C : Type 0} (say : ℕ → List ℕ → Option (C × List ℕ)) (n : �
 
 -- ---- on a holder
 
-none_either : {X : Type 0} (b : Bool) → cond {A = Option X} b None None ≡ None
-none_either true = refl
-none_either false = refl
+none_said : {X Y : Type 0} (o : Option X) → option_and_then {U = Y} (λ x. None) o ≡ None
+none_said None = refl
+none_said (Some x) = refl
 
 -- what a tag with a number says
 abbrev said_of : ℕ → ℕ → List ℕ → Option (HolderCall × List ℕ)
@@ -89,7 +91,7 @@ cut_holder_call (Take n) (suc k) fits less = cut_number (said_of 5) n fits.0 [] 
 no_holder_call : (byte : ℕ) (more : List ℕ) → 6 ≤ byte → front_holder_call (byte ∷ more) ≡ None
 no_holder_call byte more above =
     let other : (k : ℕ) → k < 6 → (byte == k) ≡ false = λ k below. grind (arith, nat_tests) in
-    rw (other 0 (omega arith), other 1 (omega arith), other 2 (omega arith), other 3 (omega arith), other 4 (omega arith), other 5 (omega arith)) (none_either (nat_lt (length more) 2))
+    rw (other 0 (omega arith), other 1 (omega arith), other 2 (omega arith), other 3 (omega arith), other 4 (omega arith), other 5 (omega arith)) (none_said (front_number more))
 
 pub holder_calls_back : HolderCallsAreReadBack
 holder_calls_back calls rest fit ends =
@@ -149,7 +151,7 @@ cut_docket_call (certify b) (suc k) fits less =
     let i = length b.instants in
     let t = length b.latenesses in
     cut_number said_ranks r fits.1.0 (i ∷ t ∷ []) k (omega arith)
-    (λ j l. cut_number (said_instants r) i fits.1.1.0 (t ∷ []) j l (λ j2 l2. cut_number (said_latenesses r i) t fits.1.1.1.0 [] j2 l2 (λ j3 l3. absurd (omega arith))))
+    (λ j l. cut_number (said_instants r) i fits.1.1.0 (t ∷ []) j l (λ h m. cut_number (said_latenesses r i) t fits.1.1.1.0 [] h m (λ g f. absurd (omega arith))))
 
 no_docket_call : (byte : ℕ) (more : List ℕ) → 4 ≤ byte → front_docket_call (byte ∷ more) ≡ None
 no_docket_call byte more above =

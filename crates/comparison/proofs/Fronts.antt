@@ -2,13 +2,13 @@
 use Rattle.std.proofs.Common.{◌≡◌, ℕ, zero, suc, ◌*◌, ◌<◌, ◌≤◌, Bool, true, false, cond, ◌==◌, nat_lt, List, [], ◌∷◌, length, take, drop, Some, None, Option, refl, ap, ◌∙◌, sym, arith}
 use Rattle.std.specs.Int.{from_be_bytes, w16, w32}
 use Rattle.std.proofs.lemmas.List.{length-drop}
-use Rattle.std.specs.Option.{option_map}
+use Rattle.std.specs.Option.{option_map, option_and_then}
 use Rattle.turns.specs.declared.calls.HolderCall.{HolderCall}
 use Rattle.turns.specs.declared.calls.HolderCall.TheVariants.{Clear, Count}
 use Rattle.frame.specs.Orders.{numbers_of}
 use Rattle.calls.specs.Calls.{Call, place, run, lift, certify}
 use Rattle.comparison.specs.Pieces.{and_behind, first_pieces, all_pieces}
-use Rattle.comparison.specs.Calls.{with_number, call_with_number, front_holder_call, blank_buffers, run_of_numbers, front_docket_call}
+use Rattle.comparison.specs.Calls.{front_number, with_number, call_with_number, front_holder_call, blank_buffers, run_of_numbers, certify_of_numbers, front_docket_call}
 use Rattle.comparison.specs.Files.{Case, case_with_body, front_case}
 
 module _ {C : Type 0} (front : List ℕ → Option (C × List ℕ)) where
@@ -63,11 +63,20 @@ module _ {C : Type 0} (n : ℕ) (p : C × List ℕ) where
   within_either true hx hy e = hx e
   within_either false hx hy e = hy e
 
+within_front : (bytes : List ℕ) (p : ℕ × List ℕ) → front_number bytes ≡ Some p → length p.1 ≤ length bytes
+unfolding front_number
+within_front bytes p e =
+    within_either (length bytes) p (nat_lt (length bytes) 2) (within_none (length bytes) p)
+    (λ h. let inner = within_rest (from_be_bytes w16 (take 2 bytes)) (drop 2 bytes) p h in omega (arith, inner, length-drop 2 bytes)) e
+
+module _ {C : Type 0} (n : ℕ) (say : ℕ → List ℕ → Option (C × List ℕ)) (p : C × List ℕ) (within : (m : ℕ) (rest : List ℕ) → say m rest ≡ Some p → length p.1 ≤ length rest) where
+  within_said : (o : Option (ℕ × List ℕ)) → ((q : ℕ × List ℕ) → o ≡ Some q → length q.1 ≤ n) → option_and_then (λ q. say q.0 q.1) o ≡ Some p → length p.1 ≤ n
+  within_said None front e = cc
+  within_said (Some q) front e = omega (arith, within q.0 q.1 e, front q refl)
+
 within_number : {C : Type 0} (bytes : List ℕ) (say : ℕ → List ℕ → Option (C × List ℕ)) (p : C × List ℕ) → ((n : ℕ) (rest : List ℕ) → say n rest ≡ Some p → length p.1 ≤ length rest) →
     with_number bytes say ≡ Some p → length p.1 ≤ length bytes
-within_number bytes say p within e =
-    within_either (length bytes) p (nat_lt (length bytes) 2) (within_none (length bytes) p)
-    (λ h. let inner = within (from_be_bytes w16 (take 2 bytes)) (drop 2 bytes) h in omega (arith, inner, length-drop 2 bytes)) e
+within_number bytes say p within e = within_said (length bytes) say p within (front_number bytes) (within_front bytes) e
 
 -- behind a call on a holder there is less
 pub holder_shorter : (bytes : List ℕ) (p : HolderCall × List ℕ) → front_holder_call bytes ≡ Some p → length p.1 < length bytes
@@ -84,6 +93,11 @@ within_run count bytes p e =
     within_either (length bytes) p (nat_lt (length bytes) (2 * count)) (within_none (length bytes) p)
     (λ h. let inner = within_rest (run (numbers_of count (take (2 * count) bytes))) (drop (2 * count) bytes) p h in omega (arith, inner, length-drop (2 * count) bytes)) e
 
+within_certify : (bytes : List ℕ) (p : Call × List ℕ) → certify_of_numbers bytes ≡ Some p → length p.1 ≤ length bytes
+within_certify bytes p e =
+    within_number bytes _ p
+    (λ ranks rest h. within_number rest _ p (λ instants others g. within_number others _ p (λ latenesses behind f. within_rest (certify (blank_buffers ranks instants latenesses)) behind p f) g) h) e
+
 -- behind a call on a docket there is less
 pub docket_shorter : (bytes : List ℕ) (p : Call × List ℕ) → front_docket_call bytes ≡ Some p → length p.1 < length bytes
 docket_shorter [] p e = cc
@@ -92,9 +106,7 @@ docket_shorter (tag ∷ bytes) p e =
     within_either (length bytes) p (tag == 0) (within_number bytes _ p (λ x rest h. within_rest (place x) rest p h))
     (within_either (length bytes) p (tag == 1) (within_number bytes _ p (λ count rest h. within_run count rest p h))
     (within_either (length bytes) p (tag == 2) (within_rest lift bytes p)
-    (within_either (length bytes) p (tag == 3)
-    (within_number bytes _ p
-    (λ ranks rest h. within_number rest _ p (λ instants others g. within_number others _ p (λ latenesses behind f. within_rest (certify (blank_buffers ranks instants latenesses)) behind p f) g) h)) (within_none (length bytes) p)))) e in
+    (within_either (length bytes) p (tag == 3) (within_certify bytes p) (within_none (length bytes) p)))) e in
     omega arith
 
 -- ---- cases

@@ -1,7 +1,6 @@
 -- Slots for the calls that bytes say.
-use Rattle.std.proofs.Common.{◌≡◌, ℕ, List, [], ◌∷◌, ◌++◌, map, refl, subst, Some, None, Ok, Option, Result, IfOk, IfSome, ap, ◌∙◌, sym, append_assoc}
+use Rattle.std.proofs.Common.{◌≡◌, ℕ, List, [], ◌∷◌, ◌++◌, map, refl, subst, Some, None, Ok, Err, Option, Result, IfOk, IfSome, ap, ◌∙◌, sym, append_assoc}
 use Rattle.std.proofs.lemmas.List.{map-append}
-use Rattle.std.proofs.lemmas.Result.{IfOk-weaker}
 use Rattle.std.specs.declared.alloc.AllocError.{AllocError}
 use Rattle.std.specs.Iterator.{Yields}
 use Rattle.std.specs.List.{FoldsTo}
@@ -9,7 +8,7 @@ use Rattle.std.specs.Option.{option_map}
 use Rattle.calls.specs.Calls.{Call}
 use Rattle.docket.specs.declared.slot.Slot.{Slot}
 use Rattle.docket.specs.Slots.{call_of}
-use Rattle.comparison.specs.Calls.{front_docket_call, docket_calls, TakesFirst}
+use Rattle.comparison.specs.Calls.{front_docket_call, docket_calls, IsSlotFor, TakesFirst}
 use Rattle.comparison.proofs.Fronts.{all_end, all_behind, docket_shorter}
 
 none_mapped : (o : Option (Call × List ℕ)) → None ≡ option_map (λ q. q.1) o → o ≡ None
@@ -20,9 +19,9 @@ some_mapped : (o : Option (Call × List ℕ)) (l : List ℕ) → Some l ≡ opti
 some_mapped None l e = cc
 some_mapped (Some q) l e = (q, refl, cc)
 
-asked : (o : Option (Call × List ℕ)) (q : Call × List ℕ) (call : Call) → o ≡ Some q → IfSome o (λ p. call ≡ p.0) → call ≡ q.0
-asked None q call e h = cc
-asked (Some p) q call e h = let same : p ≡ q = cc in h ∙ ap (λ (z : Call × List ℕ). z.0) same
+asked : (o : Option (Call × List ℕ)) (q : Call × List ℕ) (made : Result Slot AllocError) → o ≡ Some q → IfSome o (λ p. IsSlotFor p.0 made) → IsSlotFor q.0 made
+asked None q made e h = cc
+asked (Some p) q made e h = let same : p ≡ q = cc in subst (λ (z : Call × List ℕ). IsSlotFor z.0 made) same h
 
 -- no call at the front: none is left
 pub none_left : (bytes : List ℕ) → None ≡ option_map (λ q. q.1) (front_docket_call bytes) → docket_calls bytes ≡ []
@@ -30,15 +29,16 @@ none_left bytes e = all_end front_docket_call bytes (none_mapped (front_docket_c
 
 -- a slot for the call at the front
 pub slot_taken : (bytes after : List ℕ) (made : Result Slot AllocError) → Some after ≡ option_map (λ q. q.1) (front_docket_call bytes) →
-    IfOk made (λ slot. IfSome (front_docket_call bytes) (λ q. call_of slot ≡ q.0)) → TakesFirst (docket_calls bytes) (Some made) (docket_calls after)
+    IfSome (front_docket_call bytes) (λ q. IsSlotFor q.0 made) → TakesFirst (docket_calls bytes) (Some made) (docket_calls after)
 slot_taken bytes after made e asks =
     let m = some_mapped (front_docket_call bytes) after e in
     let whole : docket_calls bytes ≡ m.0.0 ∷ docket_calls after = all_behind front_docket_call docket_shorter bytes m.0 m.1 ∙ ap (λ l. m.0.0 ∷ docket_calls l) m.2 in
-    (m.0.0, whole, IfOk-weaker made _ _ (λ slot h. asked (front_docket_call bytes) m.0 (call_of slot) m.1 h) asks)
+    (m.0.0, whole, asked (front_docket_call bytes) m.0 made m.1 asks)
 
 -- the slot that is made stands in front of the calls that are left
 pub slot_before : (before after : List Call) (made : Result Slot AllocError) → TakesFirst before (Some made) after → IfOk made (λ slot. before ≡ call_of slot ∷ after)
-slot_before before after made taken = IfOk-weaker made _ _ (λ slot h. taken.1 ∙ ap (λ c. c ∷ after) (sym h)) taken.2
+slot_before before after (Ok slot) taken = taken.1 ∙ ap (λ c. c ∷ after) (sym taken.2)
+slot_before before after (Err e) taken = tt
 
 ok_said : (P : Slot → Type 0) (x : Result Slot AllocError) (z : Slot) → x ≡ Ok z → IfOk x P → P z
 ok_said P x z e h = let Q : Result Slot AllocError → Type 0 = λ r. IfOk r P in subst Q e h

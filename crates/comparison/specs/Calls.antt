@@ -1,9 +1,9 @@
 -- The calls that bytes say, one after another.
-use Rattle.std.specs.Prelude.{◌≡◌, ℕ, ◌*◌, cond, List, [], ◌∷◌, length, take, drop, replicate, Some, None, Option, Result, IfOk, IfSome, MatchOption, ◌==◌, nat_lt}
+use Rattle.std.specs.Prelude.{◌≡◌, ℕ, ◌*◌, cond, List, [], ◌∷◌, length, take, drop, replicate, Some, None, Option, Result, IfSome, MatchOption, MatchResult, ◌==◌, nat_lt}
 use Rattle.std.specs.Borrow.{Bor}
 use Rattle.std.specs.declared.alloc.AllocError.{AllocError}
 use Rattle.std.specs.Int.{from_be_bytes, w16}
-use Rattle.std.specs.Option.{option_map}
+use Rattle.std.specs.Option.{option_map, option_and_then}
 use Rattle.frame.specs.Orders.{numbers_of}
 use Rattle.turns.specs.declared.calls.HolderCall.{HolderCall}
 use Rattle.turns.specs.declared.calls.HolderCall.TheVariants.{Clear, Count, Rank, At, Add, Take}
@@ -14,10 +14,14 @@ use Rattle.docket.specs.Slots.{call_of}
 use Rattle.calls.specs.Calls.{Call, place, run, lift, certify}
 use Rattle.comparison.specs.Pieces.{all_pieces}
 
+-- the number of 2 bytes at the front, and the bytes behind it; none where there are fewer
+unfoldable pub front_number : List ℕ → Option (ℕ × List ℕ)
+front_number bytes = cond (nat_lt (length bytes) 2) None (Some (from_be_bytes w16 (take 2 bytes), drop 2 bytes))
+
 module _ {C : Type 0} where
-  -- what is said of the number of 2 bytes at the front and the bytes behind it; none where there are fewer
+  -- what is said of that number and what is behind it
   abbrev pub with_number : List ℕ → (ℕ → List ℕ → Option (C × List ℕ)) → Option (C × List ℕ)
-  with_number bytes say = cond (nat_lt (length bytes) 2) None (say (from_be_bytes w16 (take 2 bytes)) (drop 2 bytes))
+  with_number bytes say = option_and_then (λ p. say p.0 p.1) (front_number bytes)
 
 -- ---- on a holder
 
@@ -50,14 +54,16 @@ blank_buffers ranks instants latenesses = buffers_of (replicate ranks 65535) (re
 abbrev pub run_of_numbers : ℕ → List ℕ → Option (Call × List ℕ)
 run_of_numbers count bytes = cond (nat_lt (length bytes) (2 * count)) None (Some (run (numbers_of count (take (2 * count) bytes)), drop (2 * count) bytes))
 
+-- a certify into buffers of as many entries as three numbers at the front of bytes say, and what is behind it
+abbrev pub certify_of_numbers : List ℕ → Option (Call × List ℕ)
+certify_of_numbers bytes =
+    with_number bytes (λ ranks after_ranks. with_number after_ranks (λ instants after_instants. with_number after_instants (λ latenesses behind. Some (certify (blank_buffers ranks instants latenesses), behind))))
+
 -- the call of a tag, and what is behind it
 abbrev pub docket_call_of_tag : ℕ → List ℕ → Option (Call × List ℕ)
 docket_call_of_tag tag bytes =
     cond (tag == 0) (with_number bytes (λ operation rest. Some (place operation, rest)))
-    (cond (tag == 1) (with_number bytes run_of_numbers)
-    (cond (tag == 2) (Some (lift, bytes))
-    (cond (tag == 3)
-    (with_number bytes (λ ranks after_ranks. with_number after_ranks (λ instants after_instants. with_number after_instants (λ latenesses behind. Some (certify (blank_buffers ranks instants latenesses), behind))))) None)))
+    (cond (tag == 1) (with_number bytes run_of_numbers) (cond (tag == 2) (Some (lift, bytes)) (cond (tag == 3) (certify_of_numbers bytes) None)))
 
 -- the call at the front of bytes, and what is behind it; none where no whole call stands there
 abbrev pub front_docket_call : List ℕ → Option (Call × List ℕ)
@@ -68,11 +74,23 @@ front_docket_call (tag ∷ bytes) = docket_call_of_tag tag bytes
 abbrev pub docket_calls : List ℕ → List Call
 docket_calls bytes = all_pieces front_docket_call bytes
 
--- a slot that is made has the call at the front of the bytes
-abbrev pub AsksFront : List ℕ → Option (Result Slot AllocError × Bor (List ℕ)) → Type 0
-AsksFront bytes r = IfSome r (λ p. IfOk p.0 (λ slot. IfSome (front_docket_call bytes) (λ q. call_of slot ≡ q.0)))
+-- ---- slots for them
 
--- from one list of calls to another: the first call is taken, and a slot that is made has it; none where no call is left
+-- a slot for the call takes memory: for a run's order, or for a certify's buffers
+abbrev pub TakesMemory : Call → Type 0
+TakesMemory (place operation) = ⊥
+TakesMemory (run order) = Unit {0}
+TakesMemory lift = ⊥
+TakesMemory (certify buffers) = Unit {0}
+
+-- a slot that is made for a call has it, and memory is wanting only where one takes some
+abbrev pub IsSlotFor : Call → Result Slot AllocError → Type 0
+IsSlotFor call made = MatchResult made (λ slot. call_of slot ≡ call) (λ e. TakesMemory call)
+
+-- the slot is one for the call that is told
+abbrev pub AsksFor : Option (Call × List ℕ) → Option (Result Slot AllocError × Bor (List ℕ)) → Type 0
+AsksFor told r = IfSome r (λ p. IfSome told (λ q. IsSlotFor q.0 p.0))
+
+-- from one list of calls to another: the first call is taken, and a slot made for it; none where no call is left
 abbrev pub TakesFirst : List Call → Option (Result Slot AllocError) → List Call → Type 0
-TakesFirst before r after =
-    MatchOption r ((before ≡ []) × (after ≡ [])) (λ made. (call : Call) × (before ≡ call ∷ after) × IfOk made (λ slot. call_of slot ≡ call))
+TakesFirst before r after = MatchOption r ((before ≡ []) × (after ≡ [])) (λ made. (call : Call) × (before ≡ call ∷ after) × IsSlotFor call made)

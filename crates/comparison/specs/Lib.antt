@@ -1,4 +1,3 @@
-pub mod Shorter
 pub mod Hashes
 pub mod Words
 pub mod Pieces

@@ -23,21 +23,21 @@ use Rattle.calls.specs.Faults.{docket_refusal}
 use Rattle.comparison.specs.Hashes.{hash_of, bytes_of_shorts, bytes_of_buffers}
 
 -- a number behind its word, or the refusal
-abbrev pub words_of_number : List ℕ → Result ℕ DocketFault → List ℕ
+unfoldable pub words_of_number : List ℕ → Result ℕ DocketFault → List ℕ
 words_of_number word (Ok n) = word ++ (codes " " ++ decimal n)
 words_of_number word (Err e) = refusal_line (docket_refusal e)
 
 -- how many steps a run placed, and what stopped it
-abbrev pub words_of_run : ℕ → RefusalCode → List ℕ
+unfoldable pub words_of_run : ℕ → RefusalCode → List ℕ
 words_of_run n c = codes "ran " ++ (decimal n ++ (codes " stopped " ++ (decimal c.number ++ (codes " " ++ (decimal c.place ++ (codes " " ++ decimal c.detail))))))
 
 -- a certificate or the refusal, and the hash of the buffers
-abbrev pub words_of_certify : Result Certificate DocketFault → ℕ → List ℕ
+unfoldable pub words_of_certify : Result Certificate DocketFault → ℕ → List ℕ
 words_of_certify (Ok c) hash = codes "certified " ++ (decimal c.total ++ (codes " " ++ (decimal c.largest ++ (codes " " ++ (decimal c.first ++ (codes " " ++ decimal hash))))))
 words_of_certify (Err e) hash = refusal_line (docket_refusal e) ++ (codes " " ++ decimal hash)
 
 -- what a holder answers
-abbrev pub words_of_holder : Result (Option ℕ) HolderFault → List ℕ
+unfoldable pub words_of_holder : Result (Option ℕ) HolderFault → List ℕ
 words_of_holder (Ok None) = codes "done"
 words_of_holder (Ok (Some n)) = decimal n
 words_of_holder (Err f) = codes "!" ++ decimal (fault_number f)
@@ -60,7 +60,7 @@ words_of_text text = codes "trace " ++ (decimal (length text) ++ (codes " " ++ (
 -- ---- what is read and written
 
 -- what reading answers: kind and k, or the refusal
-abbrev pub words_of_said : Result Said ReadFault → List ℕ
+unfoldable pub words_of_said : Result Said ReadFault → List ℕ
 words_of_said (Ok a) = codes "accepted kind " ++ (decimal a.kind ++ (codes " k " ++ decimal a.k))
 words_of_said (Err e) = refusal_line (read_refusal e)
 
@@ -75,18 +75,18 @@ module _ {I : Type 0} (t : Ghosts I) where
   bytes_of_records os = flat_map (encode_record t) os
 
   -- a reading, and which operations are on the sheet after it
-  abbrev pub words_of_reading : Result Said ReadFault → List (Operation I) → List ℕ
+  unfoldable pub words_of_reading : Result Said ReadFault → List (Operation I) → List ℕ
   words_of_reading r os = words_of_said r ++ (codes " entered " ++ (decimal (length os) ++ (codes " " ++ decimal (hash_of (bytes_of_records os)))))
 
 -- ---- calls on a docket
 
 -- what a call on a docket is answered, with the hash of the buffers that a certify leaves
-abbrev pub words_of_answer : Answer → List ℕ
+unfoldable pub words_of_answer : Answer → List ℕ
 words_of_answer (to_place r) = words_of_number (codes "placed") r
 words_of_answer (to_run n stopped) = words_of_run n stopped
 words_of_answer (to_lift r) = words_of_number (codes "lifted") r
 words_of_answer (to_certify r b) = words_of_certify r (hash_of (bytes_of_buffers b))
 
 -- what a holder still holds, in the order in which it would give it
-abbrev pub words_of_held : List ℕ → List ℕ
+unfoldable pub words_of_held : List ℕ → List ℕ
 words_of_held list = codes "held " ++ (decimal (length list) ++ (codes " " ++ decimal (hash_of (bytes_of_shorts list))))

@@ -9,9 +9,8 @@ ghost use Rattle.docket.specs.Buffers.{owned};
 ghost use Rattle.docket.specs.Pairs.{paired_all, sheet_ops};
 ghost use Rattle.docket.specs.Slots.{call_of, reply_of};
 ghost use Rattle.examination.specs.Kinds.{seat_of};
-ghost use Rattle.comparison.specs.Shorter.{IsShorterBehind};
 ghost use Rattle.comparison.specs.Hashes.{hash_of, bytes_of_shorts, bytes_of_buffers};
-ghost use Rattle.comparison.specs.Calls.{blank_buffers, front_docket_call, docket_calls, AsksFront, TakesFirst};
+ghost use Rattle.comparison.specs.Calls.{with_number, blank_buffers, run_of_numbers, certify_of_numbers, front_docket_call, docket_calls, IsSlotFor, AsksFor, TakesFirst};
 ghost use Rattle.comparison.specs.Cases.{of_trace, words_of_answers, words_of_session, words_of_docket, docket_case};
 ghost use Rattle.comparison.specs.Words.{words_of_answer, words_of_held};
 
@@ -38,7 +37,7 @@ use std::alloc::{AllocError, Global};
 
 // A slot with a run along the order that the bytes say.
 fn run_slot(heap: Global, order: &[u8]) -> Result<Slot, AllocError>
-    ensures { IfOk result (λ s. call_of s ≡ run (numbers_of (length order.now / 2) order.now)) }
+    ensures { IsSlotFor (run (numbers_of (length order.now / 2) order.now)) result }
 {
     Ok(Slot::Run {
         order: Order::new(order).numbers(heap)?,
@@ -54,7 +53,7 @@ fn certify_slot(
     instants: u16,
     latenesses: u16,
 ) -> Result<Slot, AllocError>
-    ensures { IfOk result (λ s. call_of s ≡ certify (blank_buffers ranks instants latenesses)) }
+    ensures { IsSlotFor (certify (blank_buffers ranks instants latenesses)) result }
 {
     Ok(Slot::Certify {
         buffers: OwnBuffers {
@@ -66,11 +65,31 @@ fn certify_slot(
     })
 }
 
+// A slot with the run at the front of the bytes, and the bytes behind it; none where no whole one stands there.
+fn next_run(heap: Global, bytes: &[u8]) -> Option<(Result<Slot, AllocError>, &[u8])>
+    ensures behind { option_map (λ p. p.1.now) result ≡ option_map (λ q. q.1) (with_number bytes.now run_of_numbers) }
+    ensures asks { AsksFor (with_number bytes.now run_of_numbers) result }
+{
+    let (count, behind) = next_number(bytes)?;
+    let (order, behind) = behind.split_at_checked(2 * count as usize)?;
+    Some((run_slot(heap, order), behind))
+}
+
+// A slot with the certify at the front of the bytes, and the bytes behind it; none where no whole one stands there.
+fn next_certify(heap: Global, bytes: &[u8]) -> Option<(Result<Slot, AllocError>, &[u8])>
+    ensures behind { option_map (λ p. p.1.now) result ≡ option_map (λ q. q.1) (certify_of_numbers bytes.now) }
+    ensures asks { AsksFor (certify_of_numbers bytes.now) result }
+{
+    let (ranks, behind) = next_number(bytes)?;
+    let (instants, behind) = next_number(behind)?;
+    let (latenesses, behind) = next_number(behind)?;
+    Some((certify_slot(heap, ranks, instants, latenesses), behind))
+}
+
 // A slot with the call at the front of the bytes, and the bytes behind it; none where no whole call stands there.
 fn next_slot(heap: Global, bytes: &[u8]) -> Option<(Result<Slot, AllocError>, &[u8])>
     ensures behind { option_map (λ p. p.1.now) result ≡ option_map (λ q. q.1) (front_docket_call bytes.now) }
-    ensures asks { AsksFront bytes.now result }
-    ensures shorter { IsShorterBehind bytes.now result }
+    ensures asks { AsksFor (front_docket_call bytes.now) result }
 {
     let (tag, behind) = bytes.split_first()?;
     let answer = Err(DocketFault::NothingToLift);
@@ -79,18 +98,9 @@ fn next_slot(heap: Global, bytes: &[u8]) -> Option<(Result<Slot, AllocError>, &[
             let (operation, behind) = next_number(behind)?;
             Some((Ok(Slot::Place { operation, answer }), behind))
         }
-        1 => {
-            let (count, behind) = next_number(behind)?;
-            let (order, behind) = behind.split_at_checked(2 * count as usize)?;
-            Some((run_slot(heap, order), behind))
-        }
+        1 => next_run(heap, behind),
         2 => Some((Ok(Slot::Lift { answer }), behind)),
-        3 => {
-            let (ranks, behind) = next_number(behind)?;
-            let (instants, behind) = next_number(behind)?;
-            let (latenesses, behind) = next_number(behind)?;
-            Some((certify_slot(heap, ranks, instants, latenesses), behind))
-        }
+        3 => next_certify(heap, behind),
         _ => None,
     }
 }
@@ -137,6 +147,7 @@ fn all_slots(heap: Global, calls: &[u8]) -> Result<Vec<Slot>, AllocError>
 }
 
 // What a slot was answered.
+#[tactic(auto, unfolding(crate::specs::Words::words_of_answer))]
 fn slot_words(heap: Global, slot: &Slot) -> Result<String, AllocError>
     ensures { IfOk result (λ s. string_bytes s ≡ words_of_answer (reply_of slot.now)) }
 {
@@ -171,13 +182,13 @@ fn slots_words(heap: Global, slots: &[Slot]) -> Result<String, AllocError>
     let mut text = String::new(heap);
     for slot in slots {
         let words = slot_words(heap, slot)?;
-        text.push_str(words.as_str())?;
-        text.push_str("; ")?;
+        write!(text, "{words}; ")?;
     }
     Ok(text)
 }
 
 // What a holder still holds.
+#[tactic(auto, unfolding(crate::specs::Words::words_of_held))]
 fn held_words<H: Holder>(heap: Global, holder: &H) -> Result<String, AllocError>
     ensures { IfOk result (λ s. string_bytes s ≡ words_of_held (H.giving holder.now)) }
 {
@@ -186,24 +197,23 @@ fn held_words<H: Holder>(heap: Global, holder: &H) -> Result<String, AllocError>
     format!(in heap; "held {count} {hash}")
 }
 
-// The answers to the calls on a docket of the sheet, and what its holder still holds.
+// The answers to the calls in slots on a docket of the sheet, and what its holder then holds.
 fn docket_words<I: Item, H: Holder + Drop>(
     heap: Global,
     sheet: &Sheet<I>,
     holder: H,
     k: u16,
-    calls: &[u8],
+    slots: &mut [Slot],
 ) -> Result<String, AllocError>
-    ensures { IfOk result (λ s. string_bytes s ≡ words_of_session H.Holder.seat (sheet_ops I.Item.number sheet.now) k (docket_calls calls.now)) }
+    ensures { IfOk result (λ s. string_bytes s ≡ words_of_session H.Holder.seat (sheet_ops I.Item.number sheet.now) k (map call_of slots.old)) }
 {
-    let mut slots = all_slots(heap, calls)?;
-    let docket = answer_calls(sheet, holder, k, slots.as_mut_slice());
-    let answers = slots_words(heap, slots.as_slice())?;
-    let held = held_words(heap, &docket.close())?;
+    let holder = answer_calls(sheet, holder, k, slots).close();
+    let answers = slots_words(heap, slots)?;
+    let held = held_words(heap, &holder)?;
     format!(in heap; "docket {answers}{held}")
 }
 
-// The same on a new holder of a kind.
+// The same on a new holder of a kind, for all the calls that the bytes say.
 fn docket_words_by_kind<I: Item>(
     heap: Global,
     sheet: &Sheet<I>,
@@ -213,12 +223,14 @@ fn docket_words_by_kind<I: Item>(
 ) -> Result<String, AllocError>
     ensures { IfOk result (λ s. string_bytes s ≡ words_of_session (seat_of (kind_number kind)) (sheet_ops I.Item.number sheet.now) k (docket_calls calls.now)) }
 {
+    let mut slots = all_slots(heap, calls)?;
+    let slots = slots.as_mut_slice();
     // Kept (no plainer): the kind is known at run time only, and a match is what picks a holder's type then.
     match kind {
-        Kind::Queue => docket_words::<I, Queue>(heap, sheet, Queue::new(), k, calls),
-        Kind::Stack => docket_words::<I, Stack>(heap, sheet, Stack::new(), k, calls),
+        Kind::Queue => docket_words::<I, Queue>(heap, sheet, Queue::new(), k, slots),
+        Kind::Stack => docket_words::<I, Stack>(heap, sheet, Stack::new(), k, slots),
         Kind::CountingQueue => {
-            docket_words::<I, CountingQueue>(heap, sheet, CountingQueue::new(), k, calls)
+            docket_words::<I, CountingQueue>(heap, sheet, CountingQueue::new(), k, slots)
         }
     }
 }

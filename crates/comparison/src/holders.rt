@@ -5,8 +5,7 @@ ghost use Rattle.std.specs.Option.{option_map};
 ghost use Rattle.frame.specs.Kinds.{kind_number};
 ghost use Rattle.holder.specs.Meanings.{meaning};
 ghost use Rattle.examination.specs.Kinds.{seat_of};
-ghost use Rattle.comparison.specs.Shorter.{IsShorterBehind};
-ghost use Rattle.comparison.specs.Calls.{front_holder_call, holder_calls};
+ghost use Rattle.comparison.specs.Calls.{call_with_number, front_holder_call, holder_calls};
 ghost use Rattle.comparison.specs.Cases.{words_of_calls, holder_case};
 
 use crate::numbers::next_number;
@@ -20,32 +19,31 @@ use holder::stack::Stack;
 use std::alloc::{AllocError, Global};
 use turns::calls::{HolderCall, answer_to};
 
+// The call of a tag with a number; none where there is no such tag.
+fn call_with_number(tag: u8, number: u16) -> Option<HolderCall>
+    ensures { result ≡ call_with_number tag number }
+{
+    match tag {
+        2 => Some(HolderCall::Rank(number)),
+        3 => Some(HolderCall::At(number)),
+        4 => Some(HolderCall::Add(number)),
+        5 => Some(HolderCall::Take(number)),
+        _ => None,
+    }
+}
+
 // The call at the front of the bytes, and the bytes behind it; none where no whole call stands there.
 fn next_call(bytes: &[u8]) -> Option<(HolderCall, &[u8])>
-    ensures call { option_map (λ p. (p.0, p.1.now)) result ≡ front_holder_call bytes.now }
-    ensures shorter { IsShorterBehind bytes.now result }
+    ensures { option_map (λ p. (p.0, p.1.now)) result ≡ front_holder_call bytes.now }
 {
     let (tag, behind) = bytes.split_first()?;
     match tag {
         0 => Some((HolderCall::Clear, behind)),
         1 => Some((HolderCall::Count, behind)),
-        2 => {
-            let (code, behind) = next_number(behind)?;
-            Some((HolderCall::Rank(code), behind))
+        _ => {
+            let (number, behind) = next_number(behind)?;
+            Some((call_with_number(*tag, number)?, behind))
         }
-        3 => {
-            let (place, behind) = next_number(behind)?;
-            Some((HolderCall::At(place), behind))
-        }
-        4 => {
-            let (code, behind) = next_number(behind)?;
-            Some((HolderCall::Add(code), behind))
-        }
-        5 => {
-            let (code, behind) = next_number(behind)?;
-            Some((HolderCall::Take(code), behind))
-        }
-        _ => None,
     }
 }
 

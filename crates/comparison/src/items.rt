@@ -1,5 +1,5 @@
 // Cases of items: a number unpacked and packed again.
-ghost use Rattle.std.specs.Prelude.{◌≡◌, Err, IfOk, MatchResult, string_bytes};
+ghost use Rattle.std.specs.Prelude.{◌≡◌, IfOk, string_bytes};
 ghost use Rattle.std.specs.Option.{option_map};
 ghost use Rattle.item.specs.Lanes.{lane_number, lane_named};
 ghost use Rattle.comparison.specs.Cases.{number_again, item_case};
@@ -13,8 +13,7 @@ use std::alloc::{AllocError, Global};
 
 // The number of the item that the number names.
 fn packed_again<I: Item>(number: u64) -> Result<u64, ItemFault>
-    ensures answer { result ≡ number_again I.Item.number (I.Item.named number) }
-    ensures same { MatchResult result (λ n. n ≡ number) (λ e. I.Item.named number ≡ Err e) }
+    ensures { result ≡ number_again I.Item.number (I.Item.named number) }
 {
     Ok(I::unpack(number)?.pack())
 }

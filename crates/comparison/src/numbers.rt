@@ -1,14 +1,13 @@
 // The parts of a case: numbers of two bytes, and two parts behind a head.
-ghost use Rattle.std.specs.Prelude.{◌≡◌, ◌+◌, ◌<◌, ◌≤◌, ◌↔◌, length, take, drop, IsSome, MatchOption};
-ghost use Rattle.std.specs.Int.{from_be_bytes, w16};
+ghost use Rattle.std.specs.Prelude.{◌≡◌, ◌+◌, ◌<◌, ◌≤◌, ◌↔◌, length, drop, IsSome, MatchOption};
 ghost use Rattle.std.specs.List.{IsSplitAt};
-ghost use Rattle.comparison.specs.Shorter.{IsShorterBehind};
+ghost use Rattle.std.specs.Option.{option_map};
+ghost use Rattle.comparison.specs.Calls.{front_number};
 
 // The number at the front of the bytes, and the bytes behind it; none where no two bytes stand there.
+#[tactic(auto, unfolding(crate::specs::Calls::front_number))]
 pub(crate) fn next_number(bytes: &[u8]) -> Option<(u16, &[u8])>
-    ensures cases { MatchOption result (length bytes.now < 2) (λ p. (p.0 ≡ from_be_bytes w16 (take 2 bytes.now)) × (p.1.now ≡ drop 2 bytes.now)) }
-    ensures variant { IsSome result ↔ (2 ≤ length bytes.now) }
-    ensures shorter { IsShorterBehind bytes.now result }
+    ensures { option_map (λ p. (p.0, p.1.now)) result ≡ front_number bytes.now }
 {
     let (number, behind) = bytes.split_first_chunk::<2>()?;
     Some((u16::from_be_bytes(*number), behind))

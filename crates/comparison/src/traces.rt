@@ -57,6 +57,7 @@ fn sheet_hash<I: Item>(sheet: &Sheet<I>) -> u64
 }
 
 // What reading a trace is answered.
+#[tactic(auto, unfolding(crate::specs::Words::words_of_said))]
 fn said_words(heap: Global, answer: Result<Accepted, ReadFault>) -> Result<String, AllocError>
     ensures { IfOk result (λ s. string_bytes s ≡ words_of_said (shown answer.entry)) }
 {
@@ -74,6 +75,7 @@ fn said_words(heap: Global, answer: Result<Accepted, ReadFault>) -> Result<Strin
 }
 
 // What reading a trace onto the sheet is answered, and what is then on the sheet.
+#[tactic(auto, unfolding(crate::specs::Words::words_of_reading))]
 fn reading_words<I: Item>(
     heap: Global,
     bytes: &[u8],

@@ -10,6 +10,7 @@ use std::alloc::{AllocError, Global};
 use turns::calls::HolderAnswer;
 
 // A number behind its word, or the refusal.
+#[tactic(auto, unfolding(crate::specs::Words::words_of_number))]
 pub(crate) fn number_words(
     heap: Global,
     word: &str,
@@ -27,6 +28,7 @@ pub(crate) fn number_words(
 }
 
 // How many steps a run placed, and what stopped it.
+#[tactic(auto, unfolding(crate::specs::Words::words_of_run))]
 pub(crate) fn run_words(heap: Global, new: u16, stopped: RefusalCode) -> Result<String, AllocError>
     ensures { IfOk result (λ s. string_bytes s ≡ words_of_run new stopped) }
 {
@@ -37,6 +39,7 @@ pub(crate) fn run_words(heap: Global, new: u16, stopped: RefusalCode) -> Result<
 }
 
 // A certificate or the refusal, and the hash of the buffers.
+#[tactic(auto, unfolding(crate::specs::Words::words_of_certify))]
 pub(crate) fn certify_words(
     heap: Global,
     answer: Result<Certificate, DocketFault>,
@@ -61,6 +64,7 @@ pub(crate) fn certify_words(
 }
 
 // What a holder answered.
+#[tactic(auto, unfolding(crate::specs::Words::words_of_holder))]
 pub(crate) fn holder_words(heap: Global, answer: HolderAnswer) -> Result<String, AllocError>
     ensures { IfOk result (λ s. string_bytes s ≡ words_of_holder answer) }
 {

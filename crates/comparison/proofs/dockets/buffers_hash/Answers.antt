@@ -16,7 +16,7 @@ returns c =
     let one : c.hash_shorts-hash.result ≡ hash_of r = cc in
     let two : c.fold-hash.result ≡ hashed (hash_of r) i =
     fold_from_yields_List _ (λ h n. hashed h (to_be_bytes w64 n)) c.hash_shorts-hash.result c.fold-hash.result c.fold-hash.ensures.ran (YieldsList-from_slice (vec_items b.instants) (cc)) (λ a x b q k. search (rules, tests))
-    ∙ fold-hashed (to_be_bytes w64) _ (vec_items b.instants)
+    ∙ fold-hashed (to_be_bytes w64) c.hash_shorts-hash.result (vec_items b.instants)
     ∙ ap (λ h. hashed h i) one in
     let three : c.hash_shorts.result ≡ hashed (hashed (hash_of r) i) t =
     c.hash_shorts.ensures ∙ ap (λ l. hashed c.fold-hash.result (bytes_of_shorts l)) c.deref-3.ensures.value ∙ ap (λ h. hashed h t) two in

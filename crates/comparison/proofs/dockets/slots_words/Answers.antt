@@ -11,7 +11,7 @@ loop-slot-preserved c =
     let before = string_bytes c.loop-slot.text in
     let within : c.loop-slot.slot-index < length c.args.slots.now = omega arith in
     let here : drop i c.args.slots.now ≡ x ∷ drop (i + 1) c.args.slots.now = cc (drop-cons c.args.slots.now i x within, add-one i, c.slot-item.is) in
-    let text : string_bytes c.push_str-in-loop-slot.new.self ≡ before ++ answer_and_stop (reply_of x) = search (rules, append_assoc) in
+    let text : string_bytes c.write.new.self ≡ before ++ answer_and_stop (reply_of x) = search (rules, append_assoc) in
     let others = flat_map answer_and_stop (map reply_of (drop (i + 1) c.args.slots.now)) in
     ap (λ s. s ++ others) text
     ∙ append_assoc before (answer_and_stop (reply_of x)) others

@@ -13,9 +13,9 @@ returns-clause-answer c =
     let told : item_told (slice_index c.args.body.now 0) c.args.body.now ≡ Some c.match-body.answer =
     elim c.match-body.branch [
       | in-0 w ↦
-          told_ticket c.args.body.now w.in-0.is ∙ ap (λ x. Some (number_again ticket_items.number (ticket_items.named x))) (sym n) ∙ ap (λ x. Some x) (sym (w.answer-is ∙ w.packed_again-answer.ensures.answer))
+          told_ticket c.args.body.now w.in-0.is ∙ ap (λ x. Some (number_again ticket_items.number (ticket_items.named x))) (sym n) ∙ ap (λ x. Some x) (sym (w.answer-is ∙ w.packed_again-answer.ensures))
       | in-1 w ↦
-          told_stamp c.args.body.now w.in-1.is ∙ ap (λ x. Some (number_again stamp_items.number (stamp_items.named x))) (sym n) ∙ ap (λ x. Some x) (sym (w.answer-is ∙ w.packed_again-answer-in-1.ensures.answer))
+          told_stamp c.args.body.now w.in-1.is ∙ ap (λ x. Some (number_again stamp_items.number (stamp_items.named x))) (sym n) ∙ ap (λ x. Some x) (sym (w.answer-is ∙ w.packed_again-answer-in-1.ensures))
       | in-2 w ↦ told_lane c.args.body.now w.in-2.is ∙ ap (λ x. Some x) (sym (w.answer-is ∙ w.lane_again-answer.ensures))
     ] in
     ap (λ x. Some x) (c.in_ok-item_words.ensures) ∙ told_whole c.args.body.now c.match-body.answer c.if-body-lt9.false told
