@@ -10,7 +10,7 @@ use Rattle.order.specs.Steps.{operation, has_rank, rank_error, giving_after}
 use Rattle.order.specs.Times.{precedes}
 use Rattle.order.specs.Orders.{Acceptable}
 use Rattle.order.proofs.Stretches.{shortest, has_one, only}
-use Rattle.calls.specs.Rules.{unplaced, waits_for, unless_early, place_answer}
+use Rattle.calls.specs.Rules.{unplaced, waits_for, unless_early, rank_if_any, bounded_rank, place_answer}
 use Rattle.calls.specs.Meanings.{NotPlaced, Waits, WaitsForNone, Placing}
 use Rattle.calls.proofs.Lowest.{Lowest, lowest_is, same_lowest}
 
@@ -48,7 +48,7 @@ module _ (seat : SeatRule) (ops : List Paired) (k : ℕ) (p : List ℕ) (x : ℕ
   bounded = cond (ltb k cost) (Err (AboveBound (length p) cost)) (Ok cost)
 
   abbrev ranked : Result ℕ DocketFault
-  ranked = cond (not (has_rank deed held)) (Err (NotHeld (length p))) bounded
+  ranked = bounded_rank (length p) k (rank_if_any deed held)
 
   abbrev timed : Result ℕ DocketFault
   timed = unless_early (length p) (waits_for ops p x) ranked
@@ -70,10 +70,8 @@ module _ (seat : SeatRule) (ops : List Paired) (k : ℕ) (p : List ℕ) (x : ℕ
         | Some b ↦ λ h. (refl, ((l, z), waits ops p x b (omega arith) h.2, λ c u. waits_not ops p x c (h.3 c (omega arith) u)))
         | None ↦ λ h.
             let free : WaitsForNone ops p x = λ b w. waits_not ops p x b (h b (omega arith) (omega arith)) w in
-            cond_both (not (has_rank deed held)) (Err (NotHeld (length p))) bounded P
-            (λ e. (refl, ((l, z), free, λ r s. both_ways (has_rank deed held) (not-true (has_rank deed held) e) (has_one deed held r s))))
-            (λ e2. let ok : has_rank deed held ≡ true = not-false (has_rank deed held) e2 in
-            cond_both (ltb k cost) (Err (AboveBound (length p) cost)) (Ok cost) P
+            cond_both (has_rank deed held) (Some cost) None (λ (r : Option ℕ). P (bounded_rank (length p) k r))
+            (λ ok. cond_both (ltb k cost) (Err (AboveBound (length p) cost)) (Ok cost) P
             (λ e. (refl, ((l, z), free, shortest deed held ok, ltb-true k cost e)))
             (λ e3. (
               record {
@@ -85,6 +83,7 @@ module _ (seat : SeatRule) (ops : List Paired) (k : ℕ) (p : List ℕ) (x : ℕ
               },
               shortest deed held ok,
             )))
+            (λ no. (refl, ((l, z), free, λ r s. both_ways (has_rank deed held) no (has_one deed held r s))))
       ]
       (lowest_is (waiting ops p x) 0 n)))
 
@@ -102,7 +101,7 @@ module _ (seat : SeatRule) (ops : List Paired) (k : ℕ) (p : List ℕ) (x : ℕ
       to_timed h ∙ ap (λ (o : Option ℕ). unless_early (length p) o ranked) (waits_is ops p x None (λ c l u. waits_false ops p x c (omega arith) (free c)))
 
   to_bounded : NotPlaced ops p x → WaitsForNone ops p x → has_rank deed held ≡ true → place_answer seat ops k p x ≡ bounded
-  to_bounded h free ok = to_ranked h free ∙ cond-false (not (has_rank deed held)) (Err (NotHeld (length p))) bounded (not_from_true (has_rank deed held) ok)
+  to_bounded h free ok = to_ranked h free ∙ ap (bounded_rank (length p) k) (cond-true (has_rank deed held) (Some cost) None ok)
 
   pub accepted : Acceptable ops k p held x → place_answer seat ops k p x ≡ Ok cost
   accepted h =
@@ -123,7 +122,7 @@ module _ (seat : SeatRule) (ops : List Paired) (k : ℕ) (p : List ℕ) (x : ℕ
   refusal_is (NotHeld s) h =
       let none : has_rank deed held ≡ false = ⊎_elim (λ e. absurd (h.1.2 cost (shortest deed held e).stretch)) (λ e. e) (cases_Bool (has_rank deed held)) in
       to_ranked h.1.0 h.1.1
-      ∙ (cond-true (not (has_rank deed held)) (Err (NotHeld (length p))) bounded (not_from_false (has_rank deed held) none) ∙ ap (λ m. Err (NotHeld m)) (sym h.0))
+      ∙ (ap (bounded_rank (length p) k) (cond-false (has_rank deed held) (Some cost) None none) ∙ ap (λ m. Err (NotHeld m)) (sym h.0))
   refusal_is (AboveBound s r) h =
       let e : r ≡ cost = only deed held r h.1.2 in
       to_bounded h.1.0 h.1.1 (has_one deed held r h.1.2.stretch)

@@ -3,6 +3,7 @@ use Rattle.std.specs.Prelude.{ℕ, zero, suc, ◌-◌, max, Bool, cond, not, ◌
 use Rattle.std.specs.List.{sum, range_with_len}
 use Rattle.giving.specs.Fronts.{over}
 use Rattle.giving.specs.Lists.{SeatRule, times, place}
+use Rattle.order.specs.declared.operation.Deed.{Deed}
 use Rattle.order.specs.declared.operation.Paired.{Paired}
 use Rattle.order.specs.Steps.{operation, has_rank, rank_error, rank_errors, lateness, giving_after}
 use Rattle.order.specs.Times.{precedes, earliest}
@@ -30,15 +31,24 @@ abbrev pub unless_early : ℕ → Option ℕ → Result ℕ DocketFault → Resu
 unless_early m (Some b) a = Err (TooEarly m b)
 unless_early m None a = a
 
+-- the rank error of a step at the giving list L, where it has one
+abbrev pub rank_if_any : Deed → List ℕ → Option ℕ
+rank_if_any d L = cond (has_rank d L) (Some (rank_error d L)) None
+
+-- after m others, the step is refused where it has no rank error, or one above the bound k
+abbrev pub bounded_rank : ℕ → ℕ → Option ℕ → Result ℕ DocketFault
+bounded_rank m k None = Err (NotHeld m)
+bounded_rank m k (Some r) = cond (nat_lt k r) (Err (AboveBound m r)) (Ok r)
+
+-- the rules in their order, of the step x after m others of n operations, with the bound k: by whether x is placed, by the operation
+-- that it waits for, if any, and by its rank error, if it has one
+abbrev pub judged_answer : ℕ → ℕ → ℕ → ℕ → Bool → Option ℕ → Option ℕ → Result ℕ DocketFault
+judged_answer m n x k placed w r = cond (nat_le n x) (Err (NoSuchOperation m)) (cond placed (Err (PlacedAlready m)) (unless_early m w (bounded_rank m k r)))
+
 -- the rank error of x after p, or the first rule that x breaks
 abbrev pub place_answer : SeatRule → List Paired → ℕ → List ℕ → ℕ → Result ℕ DocketFault
 place_answer seat ops k p x =
-    cond (nat_le (length ops) x) (Err (NoSuchOperation (length p)))
-    (cond (not (unplaced p x)) (Err (PlacedAlready (length p)))
-    (unless_early (length p) (waits_for ops p x)
-    (cond (not (has_rank (operation ops x).deed (giving_after seat ops p))) (Err (NotHeld (length p)))
-    (cond (nat_lt k (rank_error (operation ops x).deed (giving_after seat ops p))) (Err (AboveBound (length p) (rank_error (operation ops x).deed (giving_after seat ops p))))
-    (Ok (rank_error (operation ops x).deed (giving_after seat ops p)))))))
+    judged_answer (length p) (length ops) x k (not (unplaced p x)) (waits_for ops p x) (rank_if_any (operation ops x).deed (giving_after seat ops p))
 
 -- the steps after it: x joins the end where it was accepted
 abbrev pub joined : List ℕ → ℕ → Result ℕ DocketFault → List ℕ

@@ -1,5 +1,5 @@
 -- A docket in agreement stays in agreement, and answers by the rules. Assumes nothing.
-use Rattle.std.proofs.Common.{◌≡◌, ℕ, ◌+◌, ◌<◌, ◌≤◌, Bool, true, false, cond, not, ◌&&◌, eqb, ltb, leb, List, [], ◌∷◌, ◌++◌, map, length, get_or, take, set, Some, None, Ok, Err, Option, Result, sym, refl, ap, ◌∙◌, ⊎_elim, arith}
+use Rattle.std.proofs.Common.{◌≡◌, ℕ, ◌+◌, ◌<◌, ◌≤◌, Bool, true, false, cond, not, ◌&&◌, eqb, ltb, leb, List, [], ◌∷◌, ◌++◌, map, length, get_or, take, set, Some, None, Ok, Err, Option, sym, refl, ap, ◌∙◌, ⊎_elim, arith}
 use Rattle.std.specs.List.{AllByRecursion, position}
 use Rattle.std.proofs.ByRecursion.{All-from_get_or}
 use Rattle.std.proofs.lemmas.List.{take_more_set, length-take-le, length-map, get_or-map, take-map, get_or-take}
@@ -8,18 +8,17 @@ use Rattle.giving.specs.Lists.{SeatRule, times}
 use Rattle.order.specs.declared.operation.Deed.{Deed}
 use Rattle.order.specs.declared.operation.Paired.{Paired}
 use Rattle.order.specs.Steps.{operation, has_rank, rank_error, after_step, passes_over, giving_after, rank_errors, lateness, items_added, adds_in}
-use Rattle.calls.specs.declared.fault.DocketFault.{DocketFault}
-use Rattle.calls.specs.declared.fault.DocketFault.TheVariants.{NoSuchOperation, PlacedAlready, NotHeld, AboveBound}
-use Rattle.calls.specs.Rules.{lowest, unplaced, waits_for, unless_early, place_answer}
+use Rattle.calls.specs.declared.fault.DocketFault.TheVariants.{NoSuchOperation}
+use Rattle.calls.specs.Rules.{lowest, unplaced, waits_for, unless_early, bounded_rank, place_answer}
 use Rattle.docket.specs.declared.entry.Entry.{Entry}
 use Rattle.docket.specs.declared.step.Step.{Step}
 use Rattle.docket.specs.declared.ledger.Ledger.{Ledger}
 use Rattle.docket.specs.Kept.{blank, entry_of, numbers_in, ranks_in}
 use Rattle.docket.specs.InAgreement.{paired_in, ops_of, steps_of, errors_of, InAgreement}
 use Rattle.holder.specs.Meanings.{Meaning}
-use Rattle.docket.specs.Moves.{stepped, rank_found, waits, judged, judged_rank, with_late, one_more, with_flag, changed_at, changed_all}
+use Rattle.docket.specs.Moves.{stepped, rank_found, waits, judged, with_late, one_more, with_flag, changed_at, changed_all}
 use Rattle.docket.proofs.PlacedSteps.{lowest_position, lowest_ext, unflagged, room}
-use Rattle.docket.proofs.Judged.{judged_in}
+use Rattle.docket.proofs.Judged.{judged_in, judged_beyond}
 use Rattle.order.proofs.Sizes.{held_times, passes_held, adds_le, late_le}
 use Rattle.order.proofs.Growing.{one_more_step}
 use Rattle.docket.proofs.Table.{op_at, length_ops, keeps_one, map_keeps_one, map_keeps_all, late_up}
@@ -101,37 +100,10 @@ opened_agrees seat l L n z late empty none =
     }
 
 -- ---- the rules
-answered : List ℕ → ℕ → ℕ → ℕ → Bool → Option ℕ → Deed → List ℕ → Result ℕ DocketFault
-answered p n x k b w d L =
-    cond (leb n x) (Err (NoSuchOperation (length p)))
-    (cond b (Err (PlacedAlready (length p)))
-    (unless_early (length p) w
-    (cond (not (has_rank d L)) (Err (NotHeld (length p)))
-    (cond (ltb k (rank_error d L)) (Err (AboveBound (length p) (rank_error d L))) (Ok (rank_error d L))))))
-
-rank_answered : (m k : ℕ) (d : Deed) (L : List ℕ)
-    → judged_rank m k (rank_found d L) ≡ cond (not (has_rank d L)) (Err (NotHeld m)) (cond (ltb k (rank_error d L)) (Err (AboveBound m (rank_error d L))) (Ok (rank_error d L)))
-unfolding rank_found
-rank_answered m k d L =
-    ⊎_elim
-    (λ (t : has_rank d L ≡ true). rw t)
-    (λ (t : has_rank d L ≡ false). rw t)
-    (cases_Bool (has_rank d L))
-
-judged_answered : (p : List ℕ) (n x k : ℕ) (b : Bool) (w : Option ℕ) (d : Deed) (L : List ℕ) → judged (length p) n x k b w (rank_found d L) ≡ answered p n x k b w d L
-unfolding judged answered
-judged_answered p n x k b w d L =
-    ap (λ (r : Result ℕ DocketFault). cond (leb n x) (Err (NoSuchOperation (length p))) (cond b (Err (PlacedAlready (length p))) r))
-    (ap (unless_early (length p) w) (rank_answered (length p) k d L))
-
-placing_answered : (seat : SeatRule) (l : Ledger) (x : ℕ)
-    → place_answer seat (ops_of l) l.k (steps_of l) x ≡ answered (steps_of l) (length (ops_of l)) x l.k (not (unplaced (steps_of l) x)) (waits_for (ops_of l) (steps_of l) x) (operation (ops_of l) x).deed (giving_after seat (ops_of l) (steps_of l))
-unfolding answered
-placing_answered seat l x = refl
-
-answered_beyond : (p : List ℕ) (n x k : ℕ) (b : Bool) (w : Option ℕ) (d : Deed) (L : List ℕ) → n ≤ x → answered p n x k b w d L ≡ Err (NoSuchOperation (length p))
-unfolding answered
-answered_beyond p n x k b w d L h = cond-true _ _ _ (le-leb n x h)
+placing_judged : (seat : SeatRule) (l : Ledger) (x : ℕ)
+    → place_answer seat (ops_of l) l.k (steps_of l) x ≡ judged (length (steps_of l)) (length (ops_of l)) x l.k (not (unplaced (steps_of l) x)) (waits_for (ops_of l) (steps_of l) x) (rank_found (operation (ops_of l) x).deed (giving_after seat (ops_of l) (steps_of l)))
+unfolding judged rank_found
+placing_judged seat l x = refl
 
 pub not_not : (b : Bool) → not (not b) ≡ b
 not_not true = refl
@@ -165,23 +137,22 @@ module _ (seat : SeatRule) (l : Ledger) (L : List ℕ) (n x : ℕ) (i : InAgreem
       let d' = (operation (ops_of l) x).deed in
       let n' = length (ops_of l) in
       ap (λ (m : ℕ). judged m l.count x k b w (rank_found d L)) (sym (long_steps l))
-      ∙ judged_answered p l.count x k b w d L
-      ∙ ap (λ (m : ℕ). answered p m x k b w d L) (sym (long_ops l))
-      ∙ ap (answered p n' x k b w d) i.gives
+      ∙ ap (λ (m : ℕ). judged (length p) m x k b w (rank_found d L)) (sym (long_ops l))
+      ∙ ap (λ (G : List ℕ). judged (length p) n' x k b w (rank_found d G)) i.gives
       ∙ ⊎_elim
       (λ (h : x < l.count).
-      ap (λ (v : Bool). answered p n' x k v w d H) (l.flagged x h)
-      ∙ ap (λ (v : Option ℕ). answered p n' x k b' v d H) (waits_same h)
-      ∙ ap (λ (v : Deed). answered p n' x k b' w' v H) (sym (ap (λ (o : Paired). o.deed) (op_is l x h))))
+      ap (λ (v : Bool). judged (length p) n' x k v w (rank_found d H)) (l.flagged x h)
+      ∙ ap (λ (v : Option ℕ). judged (length p) n' x k b' v (rank_found d H)) (waits_same h)
+      ∙ ap (λ (v : Deed). judged (length p) n' x k b' w' (rank_found v H)) (sym (ap (λ (o : Paired). o.deed) (op_is l x h))))
       (λ (h : l.count ≤ x).
       let g : n' ≤ x = omega (arith, long_ops l) in
-      answered_beyond p n' x k b w d H g ∙ sym (answered_beyond p n' x k b' w' d' H g))
+      sym (judged_beyond (length p) n' x k b w (rank_found d H) g) ∙ judged_beyond (length p) n' x k b' w' (rank_found d' H) g)
       (cases_lt x l.count)
-      ∙ sym (placing_answered seat l x)
+      ∙ sym (placing_judged seat l x)
 
 -- an accepted step was answered its rank error
-rank_of_answered : (m k : ℕ) (w : Option ℕ) (d : Deed) (L : List ℕ) (v : ℕ)
-    → Ok v ≡ unless_early m w (cond (not (has_rank d L)) (Err (NotHeld m)) (cond (ltb k (rank_error d L)) (Err (AboveBound m (rank_error d L))) (Ok (rank_error d L)))) → v ≡ rank_error d L
+rank_of_answered : (m k : ℕ) (w : Option ℕ) (d : Deed) (L : List ℕ) (v : ℕ) → Ok v ≡ unless_early m w (bounded_rank m k (rank_found d L)) → v ≡ rank_error d L
+unfolding rank_found
 rank_of_answered m k (Some b) d L v e = let z : ◌≡◌ {A = ℕ} 0 1 = cc in absurd (omega arith)
 rank_of_answered m k None d L v e =
     ⊎_elim
@@ -194,9 +165,7 @@ rank_of_answered m k None d L v e =
     (cases_Bool (has_rank d L))
 
 pub judged_rank_is : (m n x k : ℕ) (b : Bool) (w : Option ℕ) (d : Deed) (L : List ℕ) (v : ℕ) → x < n → b ≡ false → Ok v ≡ judged m n x k b w (rank_found d L) → v ≡ rank_error d L
-judged_rank_is m n x k b w d L v h f e =
-    rank_of_answered m k w d L v
-    (e ∙ judged_in m n x k b w (rank_found d L) h ∙ cond-false b _ _ f ∙ ap (unless_early m w) (rank_answered m k d L))
+judged_rank_is m n x k b w d L v h f e = rank_of_answered m k w d L v (e ∙ judged_in m n x k b w (rank_found d L) h ∙ cond-false b _ _ f)
 
 -- ---- an agreement, by the operations and the steps that a ledger is known to have
 pub agrees_as : (seat : SeatRule) (l : Ledger) (L : List ℕ) (n : ℕ) (ops : List Paired) (p : List ℕ) → ops_of l ≡ ops → steps_of l ≡ p → L ≡ giving_after seat ops p → n ≡ adds_in ops p

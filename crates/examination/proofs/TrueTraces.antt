@@ -73,57 +73,54 @@ module _ {I : Type 0} (t : Ghosts I) where
   granted_true b (refused os i e) h = absurd (cc)
   granted_true b (accepted c) h = granted_is_true (seat_of c.kind) (paired_all t.number c.ops) c.k c.order b h
 
--- a trace of stamps is none of tickets, and the other way round: what holds of every true trace of the type that the header names
--- holds of every true trace
-module _ (bs : List ℕ) (P : TrueTraceOfEither bs → Type 0) where
-  pub stamps_alone : type_of bs ≡ 1 → ((h : TrueTrace stamp_items bs) → P (inr h)) → (h : TrueTraceOfEither bs) → P h
-  stamps_alone one f (inl h) = absurd (omega (arith, type_of_true ticket_items (omega arith) bs h))
-  stamps_alone one f (inr h) = f h
+-- a true trace is one of this item type, and has as many operations as such, and so has its certificate
+pub record IsOfType {I : Type 0} (t : Ghosts I) (bs : List ℕ) : Type 0 where
+  pub either : TrueTrace t bs → TrueTraceOfEither bs
+  pub count : (g : TrueTrace t bs) → count_of (either g) ≡ length g.contents.ops
+  pub only : (h : TrueTraceOfEither bs) → (g : TrueTrace t bs) × (h ≡ either g)
+  pub certificate : (b : Buffers) (c : Certificate) (w : Buffers) → Certified t bs b c w → CertifiedOfEither bs b c w
 
-  pub tickets_alone : (type_of bs ≡ 1 → ⊥) → ((h : TrueTrace ticket_items bs) → P (inl h)) → (h : TrueTraceOfEither bs) → P h
-  tickets_alone other f (inl h) = f h
-  tickets_alone other f (inr h) = absurd (other (type_of_true stamp_items (omega arith) bs h))
+-- a trace of stamps is none of tickets, and the other way round: its header names its item type
+only_stamps : (bs : List ℕ) → type_of bs ≡ 1 → (h : TrueTraceOfEither bs) → (g : TrueTrace stamp_items bs) × (h ≡ inr g)
+only_stamps bs one (inl h) = absurd (omega (arith, type_of_true ticket_items (omega arith) bs h))
+only_stamps bs one (inr h) = (h, refl)
+
+only_tickets : (bs : List ℕ) → (type_of bs ≡ 1 → ⊥) → (h : TrueTraceOfEither bs) → (g : TrueTrace ticket_items bs) × (h ≡ inl g)
+only_tickets bs other (inl h) = (h, refl)
+only_tickets bs other (inr h) = absurd (other (type_of_true stamp_items (omega arith) bs h))
+
+pub of_stamps : (bs : List ℕ) → type_of bs ≡ 1 → IsOfType stamp_items bs
+of_stamps bs one = record { either = λ g. inr g; count = λ g. refl; only = only_stamps bs one; certificate = λ b c w h. inr h }
+
+pub of_tickets : (bs : List ℕ) → (type_of bs ≡ 1 → ⊥) → IsOfType ticket_items bs
+of_tickets bs other = record { either = λ g. inl g; count = λ g. refl; only = only_tickets bs other; certificate = λ b c w h. inl h }
 
 -- an answer that is the examination's is a certificate exactly for the bytes of a true trace
-module _ (bs : List ℕ) (bytes : Bytes bs) (b : Buffers) (r : Result Certificate Refusal) where
-  abbrev Long : TrueTraceOfEither bs → Type 0
-  Long h = is_too_short (count_of h) b ≡ false
+pub answered_exactly : {I : Type 0} (t : Ghosts I) → Lawful t → (bs : List ℕ) → Bytes bs → IsOfType t bs → (b : Buffers) (r : Result Certificate Refusal) →
+    r ≡ (examining t b (reading t 1024 bs)).answer →
+    (is_ok r ≡ true → TrueTraceOfEither bs) × ((h : TrueTraceOfEither bs) → is_too_short (count_of h) b ≡ false → is_ok r ≡ true)
+answered_exactly t law bs bytes type b r e =
+    let o = reading t 1024 bs in (
+      λ ok. type.either (true_of_outcome t law bs bytes (granted_true t b o (sym (ap is_ok e) ∙ ok))),
+      λ h long.
+          let g = type.only h in
+          let n : count_of h ≡ length g.0.contents.ops = ap (λ k. count_of k) g.1 ∙ type.count g.0 in
+          ap is_ok e ∙ true_granted t law bs b g.0 (sym (ap (λ m. is_too_short m b) n) ∙ long),
+    )
 
-  pub stamps_exactly : type_of bs ≡ 1 → r ≡ (examining stamp_items b (reading stamp_items 1024 bs)).answer →
-      (is_ok r ≡ true → TrueTraceOfEither bs) × ((h : TrueTraceOfEither bs) → Long h → is_ok r ≡ true)
-  stamps_exactly one e =
-      let o = reading stamp_items 1024 bs in (
-        λ ok. inr (true_of_outcome stamp_items lawful_stamps bs bytes (granted_true stamp_items b o (sym (ap is_ok e) ∙ ok))),
-        stamps_alone bs (λ h. Long h → is_ok r ≡ true) one (λ h l. ap is_ok e ∙ true_granted stamp_items lawful_stamps bs b h l),
-      )
-
-  pub tickets_exactly : (type_of bs ≡ 1 → ⊥) → r ≡ (examining ticket_items b (reading ticket_items 1024 bs)).answer →
-      (is_ok r ≡ true → TrueTraceOfEither bs) × ((h : TrueTraceOfEither bs) → Long h → is_ok r ≡ true)
-  tickets_exactly other e =
-      let o = reading ticket_items 1024 bs in (
-        λ ok. inl (true_of_outcome ticket_items lawful_tickets bs bytes (granted_true ticket_items b o (sym (ap is_ok e) ∙ ok))),
-        tickets_alone bs (λ h. Long h → is_ok r ≡ true) other (λ h l. ap is_ok e ∙ true_granted ticket_items lawful_tickets bs b h l),
-      )
-
-module _ (bs : List ℕ) (bytes : Bytes bs) (b w : Buffers) where
-  module _ {I : Type 0} (t : Ghosts I) (law : Lawful t) where
-    certified : (o : Outcome I) → reading t 1024 bs ≡ o → (c : Certificate) → (examining t b o).answer ≡ Ok c → w ≡ (examining t b o).buffers → Certified t bs b c w
-    certified (unread e) r c h v = absurd (cc)
-    certified (refused os i e) r c h v = absurd (cc)
-    certified (accepted a) r c h v =
-        let right = reading_back t law 1024 bs a bytes r in
-        let seat = seat_of a.kind in
-        let ops = paired_all t.number a.ops in
-        let g = subst (λ z. Granted seat ops a.k a.order b c z) (sym v) (certificate_is_true seat ops a.k a.order b c h) in
-        record { trace = record { contents = a; sound = right.sound; bytes = right.bytes; order = g.order }; granted = g }
+module _ {I : Type 0} (t : Ghosts I) (law : Lawful t) (bs : List ℕ) (bytes : Bytes bs) (b w : Buffers) where
+  certified : (o : Outcome I) → reading t 1024 bs ≡ o → (c : Certificate) → (examining t b o).answer ≡ Ok c → w ≡ (examining t b o).buffers → Certified t bs b c w
+  certified (unread e) r c h v = absurd (cc)
+  certified (refused os i e) r c h v = absurd (cc)
+  certified (accepted a) r c h v =
+      let right = reading_back t law 1024 bs a bytes r in
+      let seat = seat_of a.kind in
+      let ops = paired_all t.number a.ops in
+      let g = subst (λ z. Granted seat ops a.k a.order b c z) (sym v) (certificate_is_true seat ops a.k a.order b c h) in
+      record { trace = record { contents = a; sound = right.sound; bytes = right.bytes; order = g.order }; granted = g }
 
   -- what a certificate says is true of the trace
-  pub stamps_certified : (r : Result Certificate Refusal) → r ≡ (examining stamp_items b (reading stamp_items 1024 bs)).answer → w ≡ (examining stamp_items b (reading stamp_items 1024 bs)).buffers →
+  pub answer_certified : IsOfType t bs → (r : Result Certificate Refusal) → r ≡ (examining t b (reading t 1024 bs)).answer → w ≡ (examining t b (reading t 1024 bs)).buffers →
       IfOk r (λ c. CertifiedOfEither bs b c w)
-  stamps_certified (Ok c) e v = inr (certified stamp_items lawful_stamps (reading stamp_items 1024 bs) refl c (sym e) v)
-  stamps_certified (Err f) e v = tt
-
-  pub tickets_certified : (r : Result Certificate Refusal) → r ≡ (examining ticket_items b (reading ticket_items 1024 bs)).answer → w ≡ (examining ticket_items b (reading ticket_items 1024 bs)).buffers →
-      IfOk r (λ c. CertifiedOfEither bs b c w)
-  tickets_certified (Ok c) e v = inl (certified ticket_items lawful_tickets (reading ticket_items 1024 bs) refl c (sym e) v)
-  tickets_certified (Err f) e v = tt
+  answer_certified type (Ok c) e v = type.certificate b c w (certified (reading t 1024 bs) refl c (sym e) v)
+  answer_certified type (Err f) e v = tt

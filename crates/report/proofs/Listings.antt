@@ -1,6 +1,7 @@
 -- Lines, one after another, by iterators over lists.
 use Rattle.std.proofs.Common.{◌≡◌, ℕ, zero, suc, ◌+◌, ◌<◌, ◌≤◌, List, [], ◌∷◌, ◌++◌, length, get_or, drop, Some, sym, refl, ap, ◌∙◌, append-nil, add-one, arith, length-drop}
 use Rattle.std.specs.List.{slice_get}
+use Rattle.std.proofs.lemmas.Option.{slice_get_within, get_or_from_slice_get}
 use Rattle.sheet.specs.declared.operation.Method.{Method}
 use Rattle.sheet.specs.declared.operation.Method.TheVariants.{Add, Take, FoundEmpty}
 use Rattle.report.specs.Lines.{up_to, late_of_method}
@@ -22,18 +23,21 @@ pub record Taken {A : Type 0} (xs : List A) (n n' : ℕ) (y : A) (rest : List A)
   pub got : slice_get xs n ≡ Some y
   pub left : rest ≡ drop n' xs
 
-first_of : {A : Type 0} (xs rest : List A) (n : ℕ) (y : A) → drop n xs ≡ y ∷ rest → Taken xs n (suc n) y rest
+first_of : {A : Type 0} (xs rest : List A) (n : ℕ) (y : A) → drop n xs ≡ y ∷ rest → (slice_get xs n ≡ Some y) × (rest ≡ drop (suc n) xs)
 first_of [] rest zero y e = absurd (cc)
 first_of [] rest (suc n) y e = absurd (cc)
-first_of (x ∷ xs) rest zero y e = record { below = omega arith; at = λ d. cc; got = ap Some (cc); left = cc }
-first_of (x ∷ xs) rest (suc n) y e =
-    let t = first_of xs rest n y e in
-    record { below = omega (arith, t.below); at = t.at; got = t.got; left = t.left }
+first_of (x ∷ xs) rest zero y e = (ap Some (cc), cc)
+first_of (x ∷ xs) rest (suc n) y e = first_of xs rest n y e
 
 pub taken : {A : Type 0} (xs before rest : List A) (n n' : ℕ) (y : A) → before ≡ drop n xs → before ≡ y ∷ rest → n' ≡ n + 1 → Taken xs n n' y rest
 taken xs before rest n n' y b e next =
     let t = first_of xs rest n y (sym b ∙ e) in
-    record { below = t.below; at = t.at; got = t.got; left = t.left ∙ ap (λ k. drop k xs) (sym (next ∙ add-one n)) }
+    record {
+      below = slice_get_within xs n y t.0;
+      at = λ d. get_or_from_slice_get xs n y d t.0;
+      got = t.0;
+      left = t.1 ∙ ap (λ k. drop k xs) (sym (next ∙ add-one n));
+    }
 
 -- and where it has none left
 pub at_end : {A : Type 0} (xs rest : List A) (n : ℕ) → rest ≡ drop n xs → length rest ≡ 0 → length xs ≤ n
