@@ -151,7 +151,7 @@ cut_docket_call (certify b) (suc k) fits less =
     let i = length b.instants in
     let t = length b.latenesses in
     cut_number said_ranks r fits.1.0 (i ∷ t ∷ []) k (omega arith)
-    (λ j l. cut_number (said_instants r) i fits.1.1.0 (t ∷ []) j l (λ j2 l2. cut_number (said_latenesses r i) t fits.1.1.1.0 [] j2 l2 (λ j3 l3. absurd (omega arith))))
+    (λ j l. cut_number (said_instants r) i fits.1.1.0 (t ∷ []) j l (λ h m. cut_number (said_latenesses r i) t fits.1.1.1.0 [] h m (λ g f. absurd (omega arith))))
 
 no_docket_call : (byte : ℕ) (more : List ℕ) → 4 ≤ byte → front_docket_call (byte ∷ more) ≡ None
 no_docket_call byte more above =

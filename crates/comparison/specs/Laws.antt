@@ -48,6 +48,7 @@ holder_parts (At number) = (3, number ∷ [])
 holder_parts (Add number) = (4, number ∷ [])
 holder_parts (Take number) = (5, number ∷ [])
 
+-- a call as bytes
 abbrev pub bytes_of_holder_call : HolderCall → List ℕ
 bytes_of_holder_call call = bytes_of_parts (holder_parts call)
 
@@ -69,6 +70,7 @@ docket_parts (run order) = (1, length order ∷ order)
 docket_parts lift = (2, [])
 docket_parts (certify buffers) = (3, length buffers.ranks ∷ length buffers.instants ∷ length buffers.latenesses ∷ [])
 
+-- a call as bytes
 abbrev pub bytes_of_docket_call : Call → List ℕ
 bytes_of_docket_call call = bytes_of_parts (docket_parts call)
 
