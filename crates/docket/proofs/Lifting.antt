@@ -17,7 +17,7 @@ use Rattle.docket.specs.Moves.{replayed, with_late, one_less, with_flag, changed
 use Rattle.docket.proofs.PlacedSteps.{last_step}
 use Rattle.order.proofs.Sizes.{passes_held}
 use Rattle.order.proofs.Growing.{one_more_step}
-use Rattle.docket.proofs.Table.{keeps_one, map_keeps_one, map_keeps_all, late_down}
+use Rattle.docket.proofs.Table.{keeps_one, map_keeps_one, map_keeps_all, late_changed, less_applied}
 use Rattle.docket.proofs.HolderSteps.{replayed_held}
 use Rattle.docket.proofs.Placing.{long_steps, long_numbers, long_ranks, deeds_agree, agrees_as}
 
@@ -105,7 +105,7 @@ module _ (seat : SeatRule) (l u : Ledger) (x : ℕ)
           let kept : (entry_of u.entries y).late ≡ (entry_of l.entries y).late =
           ap (λ (es : List Entry). (entry_of es y).late) u-es ∙ keeps_one (λ (v : Entry). v.late) (with_flag false) (λ v. refl) l.entries x y in
           let put : (entry_of m.entries y).late ≡ (entry_of u.entries y).late - times y (take r L) =
-          ap (λ (es : List Entry). (entry_of es y).late) m-es ∙ late_down (take r L) u.entries y long in
+          ap (λ (es : List Entry). (entry_of es y).late) m-es ∙ late_changed one_less (take r L) u.entries y long ∙ less_applied (times y (take r L)) (entry_of u.entries y).late in
           omega (arith, before, same, hit.0, kept, put)
 
       pub lifted_agrees : InAgreement seat L n m

@@ -21,7 +21,7 @@ use Rattle.docket.proofs.PlacedSteps.{lowest_position, lowest_ext, unflagged, ro
 use Rattle.docket.proofs.Judged.{judged_in, judged_beyond}
 use Rattle.order.proofs.Sizes.{held_times, passes_held, adds_le, late_le}
 use Rattle.order.proofs.Growing.{one_more_step}
-use Rattle.docket.proofs.Table.{op_at, length_ops, keeps_one, map_keeps_one, map_keeps_all, late_up}
+use Rattle.docket.proofs.Table.{op_at, length_ops, keeps_one, map_keeps_one, map_keeps_all, late_changed, more_applied}
 use Rattle.docket.proofs.HolderSteps.{DeedAgrees, stepped_after}
 
 -- ---- what holds of every ledger
@@ -231,7 +231,7 @@ module _ (seat : SeatRule) (l m : Ledger) (L : List ℕ) (x r : ℕ)
         let c = late_le seat (ops_of l) y (steps_of l) [] in
         let k : (entry_of m.entries y).late ≡ (get_or (changed_all (with_late one_more) l.entries (take r L)) y blank).late =
         ap (λ (es : List Entry). (entry_of es y).late) es-is ∙ keeps_one (λ (v : Entry). v.late) (with_flag true) (λ v. refl) (changed_all (with_late one_more) l.entries (take r L)) x y in
-        let u = late_up (take r L) l.entries y (omega arith) (omega (arith, a, b.1, c, long_steps l)) in
+        let u = late_changed one_more (take r L) l.entries y (omega arith) ∙ more_applied (times y (take r L)) (entry_of l.entries y).late (omega (arith, a, b.1, c, long_steps l)) in
         omega (arith, k, u, a, b.0, e, (one_more_step seat (ops_of l) (steps_of l) x).latenesses y)
 
     pub placed_agrees : InAgreement seat L' n' m

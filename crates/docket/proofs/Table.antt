@@ -50,31 +50,35 @@ module _ {Y : Type 0} (part : Entry → Y) (f : Entry → Entry) (es : List Entr
   pub changed_there : (k ≡ c → ⊥) → part (entry_of (changed_at f es c) k) ≡ part (entry_of es k)
   changed_there e = ap part (get_or-set_other es c k (f (entry_of es c)) blank e)
 
-pub late_up : (cs : List ℕ) (es : List Entry) (k : ℕ) → k < length es → (entry_of es k).late + times k cs ≤ 65535 → (entry_of (changed_all (with_late one_more) es cs) k).late ≡ (entry_of es k).late + times k cs
+-- f applied n times to v
+abbrev pub applied : (ℕ → ℕ) → ℕ → ℕ → ℕ
+applied f zero v = v
+applied f (suc n) v = applied f n (f v)
+
+-- the lateness of k is changed once for each time that k stands in the codes
+pub late_changed : (f : ℕ → ℕ) (cs : List ℕ) (es : List Entry) (k : ℕ) → k < length es → (entry_of (changed_all (with_late f) es cs) k).late ≡ applied f (times k cs) (entry_of es k).late
 unfolding changed_all
-late_up [] es k h low = omega arith
-late_up (c ∷ cs) es k h low =
-    let n = length-set es c (with_late one_more (entry_of es c)) in
-    ⊎_elim
+late_changed f [] es k h = refl
+late_changed f (c ∷ cs) es k h =
+    let n = length-set es c (with_late f (entry_of es c)) in
+    late_changed f cs (changed_at (with_late f) es c) k (omega arith)
+    ∙ ⊎_elim
     (λ (e : k ≡ c).
-    let a = changed_here (λ (v : Entry). v.late) (with_late one_more) es c k e h in
-    let t = times_here k c cs e in
-    omega (arith, a, t, late_up cs (changed_at (with_late one_more) es c) k (omega arith) (omega (arith, a, t))))
+    let t : suc (times k cs) ≡ times k (c ∷ cs) = omega (arith, times_here k c cs e) in
+    ap (applied f (times k cs)) (changed_here (λ (v : Entry). v.late) (with_late f) es c k e h)
+    ∙ ap (λ (m : ℕ). applied f m (entry_of es k).late) t)
     (λ (e : k ≡ c → ⊥).
-    let a = changed_there (λ (v : Entry). v.late) (with_late one_more) es c k e in
-    let t = times_there k c cs e in
-    omega (arith, a, t, late_up cs (changed_at (with_late one_more) es c) k (omega arith) (omega (arith, a, t))))
+    ap (applied f (times k cs)) (changed_there (λ (v : Entry). v.late) (with_late f) es c k e)
+    ∙ sym (ap (λ (m : ℕ). applied f m (entry_of es k).late) (times_there k c cs e)))
     (cases_eq k c)
 
-pub late_down : (cs : List ℕ) (es : List Entry) (k : ℕ) → k < length es → (entry_of (changed_all (with_late one_less) es cs) k).late ≡ (entry_of es k).late - times k cs
-unfolding changed_all
-late_down [] es k h = omega arith
-late_down (c ∷ cs) es k h =
-    let n = length-set es c (with_late one_less (entry_of es c)) in
-    ⊎_elim
-    (λ (e : k ≡ c). omega (arith, changed_here (λ (v : Entry). v.late) (with_late one_less) es c k e h, times_here k c cs e, late_down cs (changed_at (with_late one_less) es c) k (omega arith)))
-    (λ (e : k ≡ c → ⊥). omega (arith, changed_there (λ (v : Entry). v.late) (with_late one_less) es c k e, times_there k c cs e, late_down cs (changed_at (with_late one_less) es c) k (omega arith)))
-    (cases_eq k c)
+pub more_applied : (n v : ℕ) → v + n ≤ 65535 → applied one_more n v ≡ v + n
+more_applied zero v h = omega arith
+more_applied (suc n) v h = omega (arith, more_applied n (one_more v) (omega arith))
+
+pub less_applied : (n v : ℕ) → applied one_less n v ≡ v - n
+less_applied zero v = omega arith
+less_applied (suc n) v = omega (arith, less_applied n (one_less v))
 
 -- changed latenesses leave the flags
 pub flag_kept : (f : ℕ → ℕ) (es fs : List Entry) (cs : List ℕ) (x : ℕ) → fs ≡ changed_all (with_late f) es cs → (entry_of fs x).placed ≡ (entry_of es x).placed
