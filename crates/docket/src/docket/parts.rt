@@ -1,6 +1,7 @@
 // The parts of a call: each works on the holder and the table as they stand.
 ghost use Rattle.std.specs.Prelude.{◌≡◌, ℕ, length, take};
 ghost use Rattle.giving.specs.Lists.{Below};
+ghost use Rattle.holder.specs.Meanings.{meaning};
 ghost use Rattle.docket.specs.Moves.{stepped, rank_found, with_late, changed_all};
 
 use crate::entry::Entry;
@@ -22,7 +23,7 @@ pub(crate) fn rank_of<H: Holder>(holder: &H, deed: Deed) -> Option<u16>
 
 // Makes a step on the holder: an add by `add`, and a take of an added item by `take`.
 pub(crate) fn step<H: Holder>(holder: &mut H, operation: u16, deed: Deed)
-    ensures { record { list = H.Holder.giving holder.new; count = H.Holder.adds holder.new } ≡ stepped H.Holder.seat operation deed (record { list = H.Holder.giving holder.old; count = H.Holder.adds holder.old }) }
+    ensures { meaning (H.Holder.giving holder.new) (H.Holder.adds holder.new) ≡ stepped H.Holder.seat operation deed (meaning (H.Holder.giving holder.old) (H.Holder.adds holder.old)) }
 {
     match deed {
         Deed::Add => {

@@ -1,5 +1,6 @@
 // Steps written down and taken out again, and made on a holder.
 ghost use Rattle.std.specs.Prelude.{◌≡◌, ℕ, [], ◌+◌, ◌-◌, ◌<◌, true, false, length, take, slice_index, slice_set};
+ghost use Rattle.holder.specs.Meanings.{meaning};
 ghost use Rattle.docket.specs.Kept.{entry_of, numbers_in, ranks_in};
 ghost use Rattle.docket.specs.InAgreement.{steps_of};
 ghost use Rattle.docket.specs.Moves.{with_flag, changed_at, replayed};
@@ -67,7 +68,7 @@ impl Ledger {
 
     // Clears the holder, and makes the placed steps on it, from the first on.
     pub(crate) fn replay<H: Holder>(&self, holder: &mut H)
-        ensures { record { list = H.Holder.giving holder.new; count = H.Holder.adds holder.new } ≡ replayed H.Holder.seat self.now.entries (record { list = []; count = 0 }) (steps_of self.now) }
+        ensures { meaning (H.Holder.giving holder.new) (H.Holder.adds holder.new) ≡ replayed H.Holder.seat self.now.entries (meaning [] 0) (steps_of self.now) }
     {
         holder.clear();
         let order = self.order();

@@ -5,7 +5,7 @@ use Rattle.docket.specs.declared.ledger.Ledger.{Ledger}
 use Rattle.docket.specs.Kept.{entry_of}
 use Rattle.docket.specs.InAgreement.{steps_of}
 use Rattle.docket.proofs.Placing.{long_steps, order_at, order_known}
-use Rattle.holder.specs.Meanings.{Meaning}
+use Rattle.holder.specs.Meanings.{Meaning, meaning}
 use Rattle.docket.specs.Moves.{stepped, replayed}
 use Rattle.docket.proofs.ledger.Ledger.replay.Goals as goal
 
@@ -24,7 +24,7 @@ turn seat l s t i h x r e =
 
 pub loop-placed-preserved : goal.loop-placed-preserved
 loop-placed-preserved g c =
-    turn g.H.Holder.seat c.args.self.now (record { list = g.H.Holder.giving c.loop-placed.holder; count = g.H.Holder.adds c.loop-placed.holder }) _ c.loop-placed.placed-index (omega arith) _ (order_at c.args.self.now c.order-order.result.now c.order-order.ensures.steps c.loop-placed.placed-index (omega arith)) c.step.ensures ∙ c.loop-placed.invariant
+    turn g.H.Holder.seat c.args.self.now (meaning (g.H.Holder.giving c.loop-placed.holder) (g.H.Holder.adds c.loop-placed.holder)) _ c.loop-placed.placed-index (omega arith) _ (order_at c.args.self.now c.order-order.result.now c.order-order.ensures.steps c.loop-placed.placed-index (omega arith)) c.step.ensures ∙ c.loop-placed.invariant
 
 finish : (seat : SeatRule) (l : Ledger) (s : Meaning) (i : ℕ) → l.placed ≤ i → replayed seat l.entries s (drop i (steps_of l)) ≡ s
 unfolding replayed
@@ -32,4 +32,4 @@ finish seat l s i h = at_drop_all (replayed seat l.entries s) (steps_of l) i (om
 
 pub returns : goal.returns
 returns g c =
-    sym (finish g.H.Holder.seat c.args.self.now (record { list = g.H.Holder.giving c.loop-placed.holder; count = g.H.Holder.adds c.loop-placed.holder }) c.loop-placed.placed-index (omega arith)) ∙ c.loop-placed.invariant
+    sym (finish g.H.Holder.seat c.args.self.now (meaning (g.H.Holder.giving c.loop-placed.holder) (g.H.Holder.adds c.loop-placed.holder)) c.loop-placed.placed-index (omega arith)) ∙ c.loop-placed.invariant
