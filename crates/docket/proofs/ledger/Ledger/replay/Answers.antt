@@ -13,23 +13,23 @@ pub bounds-self-placed : goal.bounds-self-placed
 bounds-self-placed g c = omega (arith, order_known c.args.self.now c.order-order.result.now c.order-order.ensures.steps c.loop-placed.placed-index (omega arith))
 
 -- one more step
-turn : (seat : SeatRule) (l : Ledger) (s t : Meaning) (i : ℕ) → i < l.placed
+replayed_one_more : (seat : SeatRule) (l : Ledger) (s t : Meaning) (i : ℕ) → i < l.placed
     → (x : ℕ) → x ≡ get_or (steps_of l) i 0 → t ≡ stepped seat x (entry_of l.entries x).paired.deed s
     → replayed seat l.entries t (drop (i + 1) (steps_of l)) ≡ replayed seat l.entries s (drop i (steps_of l))
 unfolding replayed
-turn seat l s t i h x r e =
+replayed_one_more seat l s t i h x r e =
     ap (λ (u : Meaning). replayed seat l.entries u (drop (i + 1) (steps_of l))) e
     ∙ ap (λ (x : ℕ). replayed seat l.entries (stepped seat x (entry_of l.entries x).paired.deed s) (drop (i + 1) (steps_of l))) r
     ∙ sym (at_drop_more (replayed seat l.entries s) (steps_of l) i 0 (omega (arith, long_steps l)))
 
 pub loop-placed-preserved : goal.loop-placed-preserved
 loop-placed-preserved g c =
-    turn g.H.Holder.seat c.args.self.now (meaning (g.H.Holder.giving c.loop-placed.holder) (g.H.Holder.adds c.loop-placed.holder)) _ c.loop-placed.placed-index (omega arith) _ (order_at c.args.self.now c.order-order.result.now c.order-order.ensures.steps c.loop-placed.placed-index (omega arith)) c.step.ensures ∙ c.loop-placed.invariant
+    replayed_one_more g.H.Holder.seat c.args.self.now (meaning (g.H.Holder.giving c.loop-placed.holder) (g.H.Holder.adds c.loop-placed.holder)) _ c.loop-placed.placed-index (omega arith) _ (order_at c.args.self.now c.order-order.result.now c.order-order.ensures.steps c.loop-placed.placed-index (omega arith)) c.step.ensures ∙ c.loop-placed.invariant
 
-finish : (seat : SeatRule) (l : Ledger) (s : Meaning) (i : ℕ) → l.placed ≤ i → replayed seat l.entries s (drop i (steps_of l)) ≡ s
+replayed_all : (seat : SeatRule) (l : Ledger) (s : Meaning) (i : ℕ) → l.placed ≤ i → replayed seat l.entries s (drop i (steps_of l)) ≡ s
 unfolding replayed
-finish seat l s i h = at_drop_all (replayed seat l.entries s) (steps_of l) i (omega (arith, long_steps l))
+replayed_all seat l s i h = at_drop_all (replayed seat l.entries s) (steps_of l) i (omega (arith, long_steps l))
 
 pub returns : goal.returns
 returns g c =
-    sym (finish g.H.Holder.seat c.args.self.now (meaning (g.H.Holder.giving c.loop-placed.holder) (g.H.Holder.adds c.loop-placed.holder)) c.loop-placed.placed-index (omega arith)) ∙ c.loop-placed.invariant
+    sym (replayed_all g.H.Holder.seat c.args.self.now (meaning (g.H.Holder.giving c.loop-placed.holder) (g.H.Holder.adds c.loop-placed.holder)) c.loop-placed.placed-index (omega arith)) ∙ c.loop-placed.invariant
