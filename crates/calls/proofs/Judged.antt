@@ -10,7 +10,7 @@ use Rattle.order.specs.Steps.{operation, has_rank, rank_error, giving_after}
 use Rattle.order.specs.Times.{precedes}
 use Rattle.order.specs.Orders.{Acceptable}
 use Rattle.order.proofs.Stretches.{shortest, has_one, only}
-use Rattle.calls.specs.Rules.{unplaced, waits_for, unless_early, rank_if_any, bounded_rank, place_answer}
+use Rattle.calls.specs.Rules.{unplaced, waits_for, unless_early, rank_if_any, bounded_rank, judged_answer, place_answer}
 use Rattle.calls.specs.Meanings.{NotPlaced, Waits, WaitsForNone, Placing}
 use Rattle.calls.proofs.Lowest.{Lowest, lowest_is, same_lowest}
 
@@ -57,6 +57,7 @@ module _ (seat : SeatRule) (ops : List Paired) (k : ℕ) (p : List ℕ) (x : ℕ
   fresh = cond (not (unplaced p x)) (Err (PlacedAlready (length p))) timed
 
   pub judged : Placing seat ops k p x (place_answer seat ops k p x)
+  unfolding judged_answer rank_if_any
   judged =
       let n : ℕ = length ops in
       let P : Result ℕ DocketFault → Type 0 = Placing seat ops k p x in
@@ -90,6 +91,7 @@ module _ (seat : SeatRule) (ops : List Paired) (k : ℕ) (p : List ℕ) (x : ℕ
   -- ---- no other answer
 
   to_fresh : x < length ops → place_answer seat ops k p x ≡ fresh
+  unfolding judged_answer
   to_fresh l = cond-false (leb (length ops) x) (Err (NoSuchOperation (length p))) fresh (lt-leb (length ops) x l)
 
   to_timed : NotPlaced ops p x → place_answer seat ops k p x ≡ timed
@@ -101,6 +103,7 @@ module _ (seat : SeatRule) (ops : List Paired) (k : ℕ) (p : List ℕ) (x : ℕ
       to_timed h ∙ ap (λ (o : Option ℕ). unless_early (length p) o ranked) (waits_is ops p x None (λ c l u. waits_false ops p x c (omega arith) (free c)))
 
   to_bounded : NotPlaced ops p x → WaitsForNone ops p x → has_rank deed held ≡ true → place_answer seat ops k p x ≡ bounded
+  unfolding rank_if_any
   to_bounded h free ok = to_ranked h free ∙ ap (bounded_rank (length p) k) (cond-true (has_rank deed held) (Some cost) None ok)
 
   pub accepted : Acceptable ops k p held x → place_answer seat ops k p x ≡ Ok cost
@@ -109,6 +112,7 @@ module _ (seat : SeatRule) (ops : List Paired) (k : ℕ) (p : List ℕ) (x : ℕ
       ∙ cond-false (ltb k cost) (Err (AboveBound (length p) cost)) (Ok cost) (le-ltb k cost h.small)
 
   refusal_is : (e : DocketFault) → Placing seat ops k p x (Err e) → place_answer seat ops k p x ≡ Err e
+  unfolding judged_answer rank_if_any
   refusal_is (NoSuchOperation s) h =
       cond-true (leb (length ops) x) (Err (NoSuchOperation (length p))) fresh (le-leb (length ops) x h.1) ∙ ap (λ m. Err (NoSuchOperation m)) (sym h.0)
   refusal_is (PlacedAlready s) h =

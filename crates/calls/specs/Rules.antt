@@ -31,8 +31,8 @@ abbrev pub unless_early : ℕ → Option ℕ → Result ℕ DocketFault → Resu
 unless_early m (Some b) a = Err (TooEarly m b)
 unless_early m None a = a
 
--- the rank error of a step at the giving list L, where it has one
-abbrev pub rank_if_any : Deed → List ℕ → Option ℕ
+-- the rank error of a step at the giving list L, where it has one; opened only where a proof names it
+unfoldable pub rank_if_any : Deed → List ℕ → Option ℕ
 rank_if_any d L = cond (has_rank d L) (Some (rank_error d L)) None
 
 -- after m others, the step is refused where it has no rank error, or one above the bound k
@@ -41,8 +41,8 @@ bounded_rank m k None = Err (NotHeld m)
 bounded_rank m k (Some r) = cond (nat_lt k r) (Err (AboveBound m r)) (Ok r)
 
 -- the rules in their order, of the step x after m others of n operations, with the bound k: by whether x is placed, by the operation
--- that it waits for, if any, and by its rank error, if it has one
-abbrev pub judged_answer : ℕ → ℕ → ℕ → ℕ → Bool → Option ℕ → Option ℕ → Result ℕ DocketFault
+-- that it waits for, if any, and by its rank error, if it has one; opened only where a proof names it
+unfoldable pub judged_answer : ℕ → ℕ → ℕ → ℕ → Bool → Option ℕ → Option ℕ → Result ℕ DocketFault
 judged_answer m n x k placed w r = cond (nat_le n x) (Err (NoSuchOperation m)) (cond placed (Err (PlacedAlready m)) (unless_early m w (bounded_rank m k r)))
 
 -- the rank error of x after p, or the first rule that x breaks

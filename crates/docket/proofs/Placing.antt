@@ -9,14 +9,14 @@ use Rattle.order.specs.declared.operation.Deed.{Deed}
 use Rattle.order.specs.declared.operation.Paired.{Paired}
 use Rattle.order.specs.Steps.{operation, has_rank, rank_error, after_step, passes_over, giving_after, rank_errors, lateness, items_added, adds_in}
 use Rattle.calls.specs.declared.fault.DocketFault.TheVariants.{NoSuchOperation}
-use Rattle.calls.specs.Rules.{lowest, unplaced, waits_for, unless_early, bounded_rank, place_answer}
+use Rattle.calls.specs.Rules.{lowest, unplaced, waits_for, unless_early, rank_if_any, bounded_rank, judged_answer, place_answer}
 use Rattle.docket.specs.declared.entry.Entry.{Entry}
 use Rattle.docket.specs.declared.step.Step.{Step}
 use Rattle.docket.specs.declared.ledger.Ledger.{Ledger}
 use Rattle.docket.specs.Kept.{blank, entry_of, numbers_in, ranks_in}
 use Rattle.docket.specs.InAgreement.{paired_in, ops_of, steps_of, errors_of, InAgreement}
 use Rattle.holder.specs.Meanings.{Meaning}
-use Rattle.docket.specs.Moves.{stepped, rank_found, waits, judged, with_late, one_more, with_flag, changed_at, changed_all}
+use Rattle.docket.specs.Moves.{stepped, waits, with_late, one_more, with_flag, changed_at, changed_all}
 use Rattle.docket.proofs.PlacedSteps.{lowest_position, lowest_ext, unflagged, room}
 use Rattle.docket.proofs.Judged.{judged_in, judged_beyond}
 use Rattle.order.proofs.Sizes.{held_times, passes_held, adds_le, late_le}
@@ -100,11 +100,6 @@ opened_agrees seat l L n z late empty none =
     }
 
 -- ---- the rules
-placing_judged : (seat : SeatRule) (l : Ledger) (x : ℕ)
-    → place_answer seat (ops_of l) l.k (steps_of l) x ≡ judged (length (steps_of l)) (length (ops_of l)) x l.k (not (unplaced (steps_of l) x)) (waits_for (ops_of l) (steps_of l) x) (rank_found (operation (ops_of l) x).deed (giving_after seat (ops_of l) (steps_of l)))
-unfolding judged rank_found
-placing_judged seat l x = refl
-
 pub not_not : (b : Bool) → not (not b) ≡ b
 not_not true = refl
 not_not false = refl
@@ -123,7 +118,7 @@ module _ (seat : SeatRule) (l : Ledger) (L : List ℕ) (n x : ℕ) (i : InAgreem
       ∙ ap (λ (v : ℕ). eqb (times b (steps_of l)) 0 && ltb (operation (ops_of l) b).end v) s)
       ∙ ap (λ (m : ℕ). lowest (λ b. eqb (times b (steps_of l)) 0 && ltb (operation (ops_of l) b).end (operation (ops_of l) x).start) 0 m) (sym (long_ops l))
 
-  pub judged_is : judged l.placed l.count x l.k (entry_of l.entries x).placed (lowest (waits l.entries (entry_of l.entries x).paired.start) 0 l.count) (rank_found (entry_of l.entries x).paired.deed L)
+  pub judged_is : judged_answer l.placed l.count x l.k (entry_of l.entries x).placed (lowest (waits l.entries (entry_of l.entries x).paired.start) 0 l.count) (rank_if_any (entry_of l.entries x).paired.deed L)
       ≡ place_answer seat (ops_of l) l.k (steps_of l) x
   judged_is =
       let b = (entry_of l.entries x).placed in
@@ -136,23 +131,22 @@ module _ (seat : SeatRule) (l : Ledger) (L : List ℕ) (n x : ℕ) (i : InAgreem
       let w' = waits_for (ops_of l) p x in
       let d' = (operation (ops_of l) x).deed in
       let n' = length (ops_of l) in
-      ap (λ (m : ℕ). judged m l.count x k b w (rank_found d L)) (sym (long_steps l))
-      ∙ ap (λ (m : ℕ). judged (length p) m x k b w (rank_found d L)) (sym (long_ops l))
-      ∙ ap (λ (G : List ℕ). judged (length p) n' x k b w (rank_found d G)) i.gives
+      ap (λ (m : ℕ). judged_answer m l.count x k b w (rank_if_any d L)) (sym (long_steps l))
+      ∙ ap (λ (m : ℕ). judged_answer (length p) m x k b w (rank_if_any d L)) (sym (long_ops l))
+      ∙ ap (λ (G : List ℕ). judged_answer (length p) n' x k b w (rank_if_any d G)) i.gives
       ∙ ⊎_elim
       (λ (h : x < l.count).
-      ap (λ (v : Bool). judged (length p) n' x k v w (rank_found d H)) (l.flagged x h)
-      ∙ ap (λ (v : Option ℕ). judged (length p) n' x k b' v (rank_found d H)) (waits_same h)
-      ∙ ap (λ (v : Deed). judged (length p) n' x k b' w' (rank_found v H)) (sym (ap (λ (o : Paired). o.deed) (op_is l x h))))
+      ap (λ (v : Bool). judged_answer (length p) n' x k v w (rank_if_any d H)) (l.flagged x h)
+      ∙ ap (λ (v : Option ℕ). judged_answer (length p) n' x k b' v (rank_if_any d H)) (waits_same h)
+      ∙ ap (λ (v : Deed). judged_answer (length p) n' x k b' w' (rank_if_any v H)) (sym (ap (λ (o : Paired). o.deed) (op_is l x h))))
       (λ (h : l.count ≤ x).
       let g : n' ≤ x = omega (arith, long_ops l) in
-      sym (judged_beyond (length p) n' x k b w (rank_found d H) g) ∙ judged_beyond (length p) n' x k b' w' (rank_found d' H) g)
+      sym (judged_beyond (length p) n' x k b w (rank_if_any d H) g) ∙ judged_beyond (length p) n' x k b' w' (rank_if_any d' H) g)
       (cases_lt x l.count)
-      ∙ sym (placing_judged seat l x)
 
 -- an accepted step was answered its rank error
-rank_of_answered : (m k : ℕ) (w : Option ℕ) (d : Deed) (L : List ℕ) (v : ℕ) → Ok v ≡ unless_early m w (bounded_rank m k (rank_found d L)) → v ≡ rank_error d L
-unfolding rank_found
+rank_of_answered : (m k : ℕ) (w : Option ℕ) (d : Deed) (L : List ℕ) (v : ℕ) → Ok v ≡ unless_early m w (bounded_rank m k (rank_if_any d L)) → v ≡ rank_error d L
+unfolding rank_if_any
 rank_of_answered m k (Some b) d L v e = let z : ◌≡◌ {A = ℕ} 0 1 = cc in absurd (omega arith)
 rank_of_answered m k None d L v e =
     ⊎_elim
@@ -164,8 +158,8 @@ rank_of_answered m k None d L v e =
     (λ (t : has_rank d L ≡ false). let f = rw t at e in let z : ◌≡◌ {A = ℕ} 0 1 = cc in absurd (omega arith))
     (cases_Bool (has_rank d L))
 
-pub judged_rank_is : (m n x k : ℕ) (b : Bool) (w : Option ℕ) (d : Deed) (L : List ℕ) (v : ℕ) → x < n → b ≡ false → Ok v ≡ judged m n x k b w (rank_found d L) → v ≡ rank_error d L
-judged_rank_is m n x k b w d L v h f e = rank_of_answered m k w d L v (e ∙ judged_in m n x k b w (rank_found d L) h ∙ cond-false b _ _ f)
+pub judged_rank_is : (m n x k : ℕ) (b : Bool) (w : Option ℕ) (d : Deed) (L : List ℕ) (v : ℕ) → x < n → b ≡ false → Ok v ≡ judged_answer m n x k b w (rank_if_any d L) → v ≡ rank_error d L
+judged_rank_is m n x k b w d L v h f e = rank_of_answered m k w d L v (e ∙ judged_in m n x k b w (rank_if_any d L) h ∙ cond-false b _ _ f)
 
 -- ---- an agreement, by the operations and the steps that a ledger is known to have
 pub agrees_as : (seat : SeatRule) (l : Ledger) (L : List ℕ) (n : ℕ) (ops : List Paired) (p : List ℕ) → ops_of l ≡ ops → steps_of l ≡ p → L ≡ giving_after seat ops p → n ≡ adds_in ops p

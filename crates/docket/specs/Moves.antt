@@ -1,11 +1,9 @@
 -- What the parts of a call do to the holder and the table, as they stand. Assumes nothing.
-use Rattle.std.specs.Prelude.{ℕ, ◌+◌, ◌-◌, ◌^◌, min, Bool, not, ◌&&◌, List, [], ◌∷◌, Option, Result, nat_lt, slice_set}
+use Rattle.std.specs.Prelude.{ℕ, ◌+◌, ◌-◌, ◌^◌, min, Bool, not, ◌&&◌, List, [], ◌∷◌, nat_lt, slice_set}
 use Rattle.giving.specs.Lists.{SeatRule}
 use Rattle.holder.specs.Meanings.{Meaning, after_add, after_take}
 use Rattle.order.specs.declared.operation.Deed.{Deed}
 use Rattle.order.specs.declared.operation.Deed.TheVariants.{Add, Take, TakeOfNone, FoundEmpty}
-use Rattle.calls.specs.declared.fault.DocketFault.{DocketFault}
-use Rattle.calls.specs.Rules.{rank_if_any, judged_answer}
 use Rattle.docket.specs.declared.entry.Entry.{Entry}
 use Rattle.docket.specs.Kept.{entry_of}
 
@@ -21,10 +19,6 @@ unfoldable pub replayed : SeatRule → List Entry → Meaning → List ℕ → M
 replayed seat es s [] = s
 replayed seat es s (x ∷ p) = replayed seat es (stepped seat x (entry_of es x).paired.deed s) p
 
--- the rank error of a step where it has one, as the rules have it, and opened only where a proof names it
-unfoldable pub rank_found : Deed → List ℕ → Option ℕ
-rank_found d L = rank_if_any d L
-
 -- the operation b is not placed
 abbrev pub not_placed : List Entry → ℕ → Bool
 not_placed es b = not (entry_of es b).placed
@@ -32,11 +26,6 @@ not_placed es b = not (entry_of es b).placed
 -- it is not placed, and ended before the instant t
 abbrev pub waits : List Entry → ℕ → ℕ → Bool
 waits es t b = not_placed es b && nat_lt (entry_of es b).paired.end t
-
--- the answer of the rules, opened only where a proof names it: from the number of steps m, the bound k, and what the table and the holder
--- say of the operation x: how many operations there are, whether it is placed, what it waits for, and its rank error
-unfoldable pub judged : ℕ → ℕ → ℕ → ℕ → Bool → Option ℕ → Option ℕ → Result ℕ DocketFault
-judged m n x k placed w r = judged_answer m n x k placed w r
 
 -- a lateness one higher, or one lower; latenesses have 16 bits
 abbrev pub one_more : ℕ → ℕ

@@ -2,16 +2,17 @@
 ghost use Rattle.std.specs.Prelude.{◌≡◌, ℕ, length, take};
 ghost use Rattle.giving.specs.Lists.{Below};
 ghost use Rattle.holder.specs.Meanings.{meaning};
-ghost use Rattle.docket.specs.Moves.{stepped, rank_found, with_late, changed_all};
+ghost use Rattle.calls.specs.Rules.{rank_if_any};
+ghost use Rattle.docket.specs.Moves.{stepped, with_late, changed_all};
 
 use crate::entry::Entry;
 use holder::holder::Holder;
 use order::operation::Deed;
 
 // The rank error of a step, where it has one: an answer of the holder.
-#[tactic(auto, unfolding(crate::specs::Moves::rank_found))]
+#[tactic(auto, unfolding(calls::specs::Rules::rank_if_any))]
 pub(crate) fn rank_of<H: Holder>(holder: &H, deed: Deed) -> Option<u16>
-    ensures { result ≡ rank_found deed (H.Holder.giving holder.now) }
+    ensures { result ≡ rank_if_any deed (H.Holder.giving holder.now) }
 {
     match deed {
         Deed::Add => Some(0),

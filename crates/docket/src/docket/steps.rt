@@ -1,9 +1,9 @@
 // The calls that place steps and take them back.
 ghost use Rattle.std.specs.Prelude.{◌≡◌, false, is_ok};
 ghost use Rattle.calls.specs.Faults.{code_of};
-ghost use Rattle.calls.specs.Rules.{joined, lift_answer, lowest, without_last};
+ghost use Rattle.calls.specs.Rules.{joined, judged_answer, lift_answer, lowest, rank_if_any, without_last};
 ghost use Rattle.docket.specs.Kept.{entry_of};
-ghost use Rattle.docket.specs.Moves.{rank_found, waits, judged};
+ghost use Rattle.docket.specs.Moves.{waits};
 ghost use Rattle.docket.specs.Agreed.{ops_in, steps_in, bound_in, placing, running};
 
 use crate::docket::Docket;
@@ -14,9 +14,9 @@ use holder::holder::Holder;
 // Kept (no plainer): `table` and `bound` relate the docket before and after a call, which no type can hold; each is one equation, and those who cite them need them apart.
 impl<H: Holder> Docket<H> {
     // What placing the operation is answered: the rules in their order.
-    #[tactic(auto, unfolding(crate::specs::Moves::judged))]
+    #[tactic(auto, unfolding(calls::specs::Rules::judged_answer))]
     fn judge(&self, operation: u16) -> Result<u16, DocketFault>
-        ensures { result ≡ judged self.now.ledger.placed self.now.ledger.count operation self.now.ledger.k (entry_of self.now.ledger.entries operation).placed (lowest (waits self.now.ledger.entries (entry_of self.now.ledger.entries operation).paired.start) 0 self.now.ledger.count) (rank_found (entry_of self.now.ledger.entries operation).paired.deed (H.Holder.giving self.now.holder)) }
+        ensures { result ≡ judged_answer self.now.ledger.placed self.now.ledger.count operation self.now.ledger.k (entry_of self.now.ledger.entries operation).placed (lowest (waits self.now.ledger.entries (entry_of self.now.ledger.entries operation).paired.start) 0 self.now.ledger.count) (rank_if_any (entry_of self.now.ledger.entries operation).paired.deed (H.Holder.giving self.now.holder)) }
     {
         let ledger = &self.ledger;
         let placed = ledger.placed;

@@ -1,5 +1,6 @@
 use Rattle.std.proofs.Common.{◌≡◌, ℕ, zero, suc, ◌<◌, [], ◌∷◌, refl, arith}
 use Rattle.giving.specs.Lists.{times}
+use Rattle.calls.specs.Rules.{rank_if_any, judged_answer}
 use Rattle.examples.proofs.worked_examples_hold.Goals as goal
 
 named_once : (x : ℕ) → x < 2 → times x (1 ∷ 0 ∷ []) ≡ 1
@@ -8,6 +9,7 @@ named_once (suc zero) l = refl
 named_once (suc (suc x)) l = absurd (omega arith)
 
 pub returns : goal.returns
+unfolding judged_answer rank_if_any
 returns c = record {
   queue_passes_two = refl;
   queue_bound_one = refl;
