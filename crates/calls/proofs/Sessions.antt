@@ -31,7 +31,7 @@ module _ (seat : SeatRule) (ops : List Paired) (k : ℕ) where
       (lifted (without_last (x ∷ p)) (get_or (x ∷ p) (n - 1) 0) (last_off x p))
 
   module _ (p : List ℕ) where
-    pub is_answered : Placed seat ops k p → (c : Call) → IsAnswered seat ops k p c (answer_for seat ops k p c) (left_by seat ops k p c)
+    is_answered : Placed seat ops k p → (c : Call) → IsAnswered seat ops k p c (answer_for seat ops k p c) (left_by seat ops k p c)
     is_answered h (place x) =
         elim (place_answer seat ops k p x) as (λ a. Placing seat ops k p x a → IsAnswered seat ops k p (place x) (to_place a) (joined p x a))
         [ Ok r ↦ λ g. placed x r g | Err e ↦ λ g. refused x e g ] (judged seat ops k p x)

@@ -19,7 +19,7 @@ later ops m (x ∷ p) (t ∷ ts) b i h =
     (λ e l. omega (arith, ap (λ y. (operation ops y).end) (eqb-true b x e))) (λ e l. omega (arith, later ops t p ts b i.3 (omega arith))) h
 
 module _ (seat : SeatRule) (ops : List Paired) (k : ℕ) where
-  pub placed_of_timed : (p done L : List ℕ) (m : ℕ) (ts : List ℕ) → AllByRecursion (λ x. x < length ops) p → ((b : ℕ) → b < length ops → times b done + times b p ≡ 1)
+  placed_of_timed : (p done L : List ℕ) (m : ℕ) (ts : List ℕ) → AllByRecursion (λ x. x < length ops) p → ((b : ℕ) → b < length ops → times b done + times b p ≡ 1)
       → WithinBound seat ops k L p → InstantsFrom ops m p ts → PlacedFrom seat ops k done L p
   placed_of_timed [] done L m ts low one within_bound i = tt
   placed_of_timed (x ∷ p) done L m [] low one within_bound i = absurd i
