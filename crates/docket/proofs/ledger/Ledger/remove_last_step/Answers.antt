@@ -1,4 +1,4 @@
-use Rattle.std.proofs.Common.{◌-◌, ◌<◌, false, get_or, arith, length-set}
+use Rattle.std.proofs.Common.{◌-◌, ◌<◌, false, get_or, refl, arith, length-set}
 use Rattle.docket.specs.declared.ledger.Ledger.{Ledger}
 use Rattle.docket.specs.Kept.{numbers_in}
 use Rattle.docket.proofs.PlacedSteps.{once_removed, flagged_removed}
@@ -29,3 +29,6 @@ invariant_of-self c =
       flagged = flagged_removed (numbers_in l.steps) l.placed _ c.requires (omega (arith, long_numbers l)) is l.entries l.count (omega arith) l.once l.flagged;
       ends = awaits_flag false l.awaited.least _ l.count _ l.entries (omega arith) c.set.ensures.own c.set.ensures.others l.ends;
     }
+
+pub returns-clause-entries : goal.returns-clause-entries
+returns-clause-entries c = refl

@@ -32,3 +32,8 @@ loop-place-preserved c =
           (cases_eq q p),
       λ x. get_or-set_other ts p (1024 + x) v 0 (λ e. omega arith) ∙ was.4 x,
     )
+
+pub returns : goal.returns
+returns c =
+    let was = c.loop-place.invariant in
+    record { long = was.0; lesser = (λ q pos high. was.3 q pos high (λ e. omega arith)); ends = was.4 }
