@@ -12,7 +12,7 @@ use Rattle.calls.specs.Faults.{code_of}
 use Rattle.calls.specs.Rules.{unplaced, place_answer, joined, Run, run_of, lift_answer, without_last, Buffers, missing, is_too_short, unless_missing, certificate_of, certify_answer, written}
 use Rattle.calls.specs.Calls.{Call, place, run, lift, certify, Answer, to_place, to_run, to_lift, to_certify, answer_for, left_by, placed_by, answers_for}
 use Rattle.calls.specs.Meanings.{Placing}
-use Rattle.calls.specs.Sessions.{Happens, placed, refused, ran, ran_until, lifted, not_lifted, granted, steps_missing, buffer_short, Session, ended, next}
+use Rattle.calls.specs.Sessions.{IsAnswered, placed, refused, ran, ran_until, lifted, not_lifted, granted, steps_missing, buffer_short, Session, ended, next}
 use Rattle.calls.proofs.Lowest.{Lowest, lowest_is}
 use Rattle.calls.proofs.Judged.{judged, answer_is}
 use Rattle.calls.proofs.Steps.{placed_left}
@@ -21,33 +21,33 @@ use Rattle.calls.proofs.RunsAndLifts.{outcome, ran_is, ran_until_is, last_off, w
 use Rattle.calls.proofs.Granted.{is_granted, granted_same}
 
 module _ (seat : SeatRule) (ops : List Paired) (k : ℕ) where
-  -- ---- the rules' answer to each call is one that happens
-  lift_happens : (p : List ℕ) → Happens seat ops k p lift (to_lift (lift_answer p)) (without_last p)
-  lift_happens [] = not_lifted refl
-  lift_happens (x ∷ p) =
+  -- ---- each call is answered as the rules have it
+  lift_is_answered : (p : List ℕ) → IsAnswered seat ops k p lift (to_lift (lift_answer p)) (without_last p)
+  lift_is_answered [] = not_lifted refl
+  lift_is_answered (x ∷ p) =
       let n : ℕ = length (x ∷ p) in
-      subst (λ (a : Result ℕ DocketFault). Happens seat ops k (x ∷ p) lift (to_lift a) (without_last (x ∷ p)))
+      subst (λ (a : Result ℕ DocketFault). IsAnswered seat ops k (x ∷ p) lift (to_lift a) (without_last (x ∷ p)))
       (sym (cond-false (eqb n 0) (Err NothingToLift) (Ok (get_or (x ∷ p) (n - 1) 0)) (ne_eqb n 0 (λ e. omega arith))))
       (lifted (without_last (x ∷ p)) (get_or (x ∷ p) (n - 1) 0) (last_off x p))
 
   module _ (p : List ℕ) where
-    pub happens : Placed seat ops k p → (c : Call) → Happens seat ops k p c (answer_for seat ops k p c) (left_by seat ops k p c)
-    happens h (place x) =
-        elim (place_answer seat ops k p x) as (λ a. Placing seat ops k p x a → Happens seat ops k p (place x) (to_place a) (joined p x a))
+    is_answered : Placed seat ops k p → (c : Call) → IsAnswered seat ops k p c (answer_for seat ops k p c) (left_by seat ops k p c)
+    is_answered h (place x) =
+        elim (place_answer seat ops k p x) as (λ a. Placing seat ops k p x a → IsAnswered seat ops k p (place x) (to_place a) (joined p x a))
         [ Ok r ↦ λ g. placed x r g | Err e ↦ λ g. refused x e g ] (judged seat ops k p x)
-    happens h (run xs) =
-        let F : Run → Type 0 = λ R. Happens seat ops k p (run xs) (to_run R.new (code_of R.stopped)) R.steps in
+    is_answered h (run xs) =
+        let F : Run → Type 0 = λ R. IsAnswered seat ops k p (run xs) (to_run R.new (code_of R.stopped)) R.steps in
         ⊎_elim
         (λ g. subst F (sym g.1) (rw zero-add (ran xs g.0)))
-        (λ g. subst F (sym g.7) (rw zero-add (subst (λ (l : List ℕ). Happens seat ops k p (run l) (to_run (length g.0) (code_of (Some g.3))) (p ++ g.0)) (sym g.4)
+        (λ g. subst F (sym g.7) (rw zero-add (subst (λ (l : List ℕ). IsAnswered seat ops k p (run l) (to_run (length g.0) (code_of (Some g.3))) (p ++ g.0)) (sym g.4)
         (ran_until g.0 g.1 g.2 g.3 g.5 g.6)))) (outcome seat ops k xs p 0)
-    happens h lift = lift_happens p
-    happens h (certify b) =
+    is_answered h lift = lift_is_answered p
+    is_answered h (certify b) =
         let C : Option ℕ → Result Certificate DocketFault = λ o. unless_missing p o (by_size seat ops p b) in
-        elim (missing ops p) as (λ o. Lowest (unplaced p) 0 (length ops) o → Happens seat ops k p (certify b) (to_certify (C o) (written seat ops p b (C o))) p) [
+        elim (missing ops p) as (λ o. Lowest (unplaced p) 0 (length ops) o → IsAnswered seat ops k p (certify b) (to_certify (C o) (written seat ops p b (C o))) p) [
           | Some a ↦ λ g. steps_missing b a (omega arith) (eqb-true (times a p) 0 g.2) (λ c l. omega (arith, eqb-false (times c p) 0 (g.3 c (omega arith) l)))
           | None ↦ λ g.
-              cond_both (is_too_short (length ops) b) (Err (BufferTooShort (length ops))) (Ok (certificate_of seat ops p)) (λ a. Happens seat ops k p (certify b) (to_certify a (written seat ops p b a)) p)
+              cond_both (is_too_short (length ops) b) (Err (BufferTooShort (length ops))) (Ok (certificate_of seat ops p)) (λ a. IsAnswered seat ops k p (certify b) (to_certify a (written seat ops p b a)) p)
               (λ s. buffer_short b (λ c l. omega (arith, eqb-false (times c p) 0 (g c (omega arith) (omega arith)))) (short_true (length ops) b s))
               (λ s. granted b (written seat ops p b (Ok (certificate_of seat ops p))) (certificate_of seat ops p)
               (is_granted seat ops k p b (true_of_placed seat ops k p h (all_placed seat ops k p h g)) (short_false (length ops) b s)))
@@ -69,7 +69,7 @@ module _ (seat : SeatRule) (ops : List Paired) (k : ℕ) where
     only_certify : (b w : Buffers) (a : Result Certificate DocketFault) → certify_answer seat ops p b ≡ a → w ≡ written seat ops p b a → Only (certify b) (to_certify a w) p
     only_certify b w a e g = (ap (to_certify a) g ∙ ap (λ (v : Result Certificate DocketFault). to_certify v (written seat ops p b v)) (sym e), refl)
 
-    pub only : {c : Call} {a : Answer} {q : List ℕ} → Happens seat ops k p c a q → Only c a q
+    pub only : {c : Call} {a : Answer} {q : List ℕ} → IsAnswered seat ops k p c a q → Only c a q
     only (placed x r h) = only_placed x (Ok r) h
     only (refused x e h) = only_placed x (Err e) h
     only (ran xs h) = only_run xs (p ++ xs) (length xs) None (ran_is seat ops k xs p h)
@@ -91,7 +91,7 @@ module _ (seat : SeatRule) (ops : List Paired) (k : ℕ) where
   -- ---- the same of lists of calls
   pub session : (calls : List Call) (p : List ℕ) → Placed seat ops k p → Session seat ops k p calls (answers_for seat ops k p calls) (placed_by seat ops k p calls)
   session [] p h = ended p
-  session (c ∷ calls) p h = next (happens p h c) (session calls (left_by seat ops k p c) (placed_left seat ops k p c h))
+  session (c ∷ calls) p h = next (is_answered p h c) (session calls (left_by seat ops k p c) (placed_left seat ops k p c h))
 
   pub no_other : {p : List ℕ} {calls : List Call} {answers : List Answer} {q : List ℕ} → Session seat ops k p calls answers q
       → (answers ≡ answers_for seat ops k p calls) × (q ≡ placed_by seat ops k p calls)

@@ -8,19 +8,19 @@ use Rattle.counting.specs.Sums.{counted_from_on, counted_from_off}
 
 module _ (q less more : ℕ) where
   -- the sum x at position k became y as position q changed
-  abbrev pub Moved : ℕ → ℕ → ℕ → Type 0
-  Moved k x y = y + (counted_from q less k + counted_from q more (k - block k)) ≡ x + (counted_from q more k + counted_from q less (k - block k))
+  abbrev pub SumChanged : ℕ → ℕ → ℕ → Type 0
+  SumChanged k x y = y + (counted_from q less k + counted_from q more (k - block k)) ≡ x + (counted_from q more k + counted_from q less (k - block k))
 
   -- changed up to p: the sums before it are up to date, and those from it on are as they were
-  pub record Walked (p : ℕ) (old new : List ℕ) : Type 0 where
+  pub record ChangedUpTo (p : ℕ) (old new : List ℕ) : Type 0 where
     pub past : q ≤ p
     pub near : p ≤ 2048
     pub has : p - block p < q
-    pub done : (k : ℕ) → 0 < k → k < p → k ≤ 1024 → Moved k (get_or old k 0) (get_or new k 0)
+    pub done : (k : ℕ) → 0 < k → k < p → k ≤ 1024 → SumChanged k (get_or old k 0) (get_or new k 0)
     pub rest : (k : ℕ) → p ≤ k → get_or new k 0 ≡ get_or old k 0
 
-  pub walk_start : (old : List ℕ) → 0 < q → q ≤ 1024 → Walked q old old
-  walk_start old s h = record {
+  pub changed_none : (old : List ℕ) → 0 < q → q ≤ 1024 → ChangedUpTo q old old
+  changed_none old s h = record {
     past = omega arith;
     near = omega arith;
     has = let b = block_some q in omega arith;
@@ -29,17 +29,17 @@ module _ (q less more : ℕ) where
   }
 
   -- at p itself
-  pub here : (x y p : ℕ) → q ≤ p → p - block p < q → y + less ≡ x + more → Moved p x y
+  pub here : (x y p : ℕ) → q ≤ p → p - block p < q → y + less ≡ x + more → SumChanged p x y
   here x y p on off e = omega (arith, counted_from_on q less p on, counted_from_on q more p on, counted_from_off q less (p - block p) off, counted_from_off q more (p - block p) off)
 
   -- a block that ends between p and the end of the next block with q has not q
-  skipped : (x p k : ℕ) → 0 < q → q ≤ p → p ≤ 1024 → p < k → k < p + block p → Moved k x x
+  skipped : (x p k : ℕ) → 0 < q → q ≤ p → p ≤ 1024 → p < k → k < p + block p → SumChanged k x x
   skipped x p k s on w a b =
       let i = block_inside p k (omega arith) (omega arith) a b in
       omega (arith, counted_from_on q less k (omega arith), counted_from_on q more k (omega arith), counted_from_on q less (k - block k) (omega arith), counted_from_on q more (k - block k) (omega arith))
 
-  pub walk_more : (p v : ℕ) (old new : List ℕ) → 0 < q → p ≤ 1024 → p < length new → v + less ≡ get_or old p 0 + more → Walked p old new → Walked (p + block p) old (set new p v)
-  walk_more p v old new s w l e g =
+  pub changed_more : (p v : ℕ) (old new : List ℕ) → 0 < q → p ≤ 1024 → p < length new → v + less ≡ get_or old p 0 + more → ChangedUpTo p old new → ChangedUpTo (p + block p) old (set new p v)
+  changed_more p v old new s w l e g =
       let some = block_some p in
       let le = block_le p (omega arith) (omega arith) in
       let next = block_next p (omega arith) (omega arith) in

@@ -102,6 +102,7 @@ impl Arrivals {
         }
         Slot { number: at }
     }
+
     // The slots from the first used one on.
     fn from_first(&self) -> &[Option<u16>]
         ensures { codes result.now ≡ codes self.now.slots }

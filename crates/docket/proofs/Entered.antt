@@ -9,7 +9,7 @@ use Rattle.std.specs.Array.{IsFromFnResult}
 use Rattle.sheet.specs.declared.operation.Operation.{Operation}
 use Rattle.order.specs.declared.operation.Paired.{Paired}
 use Rattle.docket.specs.declared.entry.Entry.{Entry}
-use Rattle.order.specs.Steps.{nothing}
+use Rattle.order.specs.Steps.{no_operation}
 use Rattle.docket.specs.Kept.{fresh, blank, entry_of}
 use Rattle.docket.specs.Pairs.{paired_of, paired_all}
 use Rattle.docket.specs.InAgreement.{paired_in}
@@ -28,25 +28,25 @@ module _ {I : Type 0} (number : I → ℕ) (all os : List (Operation I)) (k : �
     pub found_at : slice_get os k ≡ Some o
     found_at = slice_get_read os (length os) k o refl within here
 
-    pub paired_at : get_or (paired_all number os) k nothing ≡ paired_of number os o
-    paired_at = get_or-map (paired_of number os) os k o nothing within ∙ ap (paired_of number os) (sym here)
+    pub paired_at : get_or (paired_all number os) k no_operation ≡ paired_of number os o
+    paired_at = get_or-map (paired_of number os) os k o no_operation within ∙ ap (paired_of number os) (sym here)
 
-  pub paired_past : false ≡ ltb k (length all) → get_or (paired_all number os) k nothing ≡ nothing
+  pub paired_past : false ≡ ltb k (length all) → get_or (paired_all number os) k no_operation ≡ no_operation
   paired_past h =
-      get_or_past (paired_all number os) k nothing
+      get_or_past (paired_all number os) k no_operation
       (omega (arith, ltb-false k (length all) (sym h), ap (length {A = Operation I}) same, length-map os (paired_of number os)))
 
 -- the entry of number x, where ps are the operations
 abbrev pub entry_before : List Paired → ℕ → Entry
-entry_before ps x = fresh (get_or ps x nothing)
+entry_before ps x = fresh (get_or ps x no_operation)
 
--- n entries that calls made of the operations ps, and of nothing past them
+-- n entries that calls made of the operations ps, and of no operation past them
 module _ {F : Type 0} {g : Mut F (ℕ × Unit {0}) Entry} {f : F} {es : List Entry} {n : ℕ} (filled : IsFromFnResult g f es n) (ps : List Paired) (call : (x : ℕ) (y : Entry) (q : F) → Called g f (x, tt) y q → (y ≡ entry_before ps x) × (q ≡ f)) where
   at_any : {Y : Type 0} (part : Entry → Y) (y : Y) → ((p : Paired) → part (fresh p) ≡ y) → (x : ℕ) → part (entry_of es x) ≡ y
   at_any part y all x =
       ⊎_elim
-      (λ (h : x < n). ap part (made es (entry_before ps) call filled x blank h) ∙ all (get_or ps x nothing))
-      (λ (h : n ≤ x). ap part (get_or_past es x blank (omega (arith, filled.long))) ∙ all nothing)
+      (λ (h : x < n). ap part (made es (entry_before ps) call filled x blank h) ∙ all (get_or ps x no_operation))
+      (λ (h : n ≤ x). ap part (get_or_past es x blank (omega (arith, filled.long))) ∙ all no_operation)
       (cases_lt x n)
 
   pub none_late : (x : ℕ) → (entry_of es x).late ≡ 0
@@ -58,7 +58,7 @@ module _ {F : Type 0} {g : Mut F (ℕ × Unit {0}) Entry} {f : F} {es : List Ent
   pub table_is : (count : ℕ) → count ≡ length ps → count ≤ n → take count (map paired_in es) ≡ ps
   table_is count all few =
       let long = length_ops es count (omega (arith, filled.long)) in
-      ext_get_or nothing (take count (map paired_in es)) ps (omega (arith, long, all))
+      ext_get_or no_operation (take count (map paired_in es)) ps (omega (arith, long, all))
       (λ i h.
       let i' : i < count = omega (arith, h, long) in
       op_at es count i (omega (arith, filled.long)) i' ∙ ap paired_in (made es (entry_before ps) call filled i blank (omega arith)))

@@ -1,7 +1,7 @@
 -- What every ledger keeps. Assumes nothing.
 use Rattle.std.specs.Prelude.{◌≡◌, ℕ, ◌+◌, ◌-◌, ◌*◌, ◌^◌, ◌<◌, ◌≤◌, min, false, cond, not, List, map, length, take, slice_index, slice_index_or}
 use Rattle.order.specs.declared.operation.Paired.{Paired}
-use Rattle.order.specs.Steps.{nothing}
+use Rattle.order.specs.Steps.{no_operation}
 use Rattle.calls.specs.Rules.{unplaced}
 use Rattle.docket.specs.declared.entry.Entry.{Entry}
 use Rattle.docket.specs.declared.step.Step.{Step}
@@ -12,7 +12,7 @@ fresh p = record { paired = p; late = 0; placed = false }
 
 -- what stands past the end of the table
 abbrev pub blank : Entry
-blank = fresh nothing
+blank = fresh no_operation
 
 -- the entry of the operation x
 abbrev pub entry_of : List Entry → ℕ → Entry

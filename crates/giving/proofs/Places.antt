@@ -20,7 +20,7 @@ pub place_there : (a : ℕ) (L : List ℕ) → place a L < length L → get_or L
 place_there a [] h = absurd (omega arith)
 place_there a (x ∷ xs) h = grind (arith, nat_tests, place_there a xs)
 
-pub times_some : (a : ℕ) (L : List ℕ) → place a L < length L → 1 ≤ times a L
+times_some : (a : ℕ) (L : List ℕ) → place a L < length L → 1 ≤ times a L
 times_some a L h = times_at a (place a L) L h (place_there a L h)
 
 pub times_absent : (a : ℕ) (L : List ℕ) → length L ≤ place a L → times a L ≡ 0
@@ -58,11 +58,11 @@ removed_without a [] = refl
 removed_without a (x ∷ xs) = grind (arith, nat_tests, removed_without a xs)
 
 -- a code that is not in the front is taken from the back
-pub without_back : (a : ℕ) (xs ys : List ℕ) → times a xs ≡ 0 → without a (xs ++ ys) ≡ xs ++ without a ys
+without_back : (a : ℕ) (xs ys : List ℕ) → times a xs ≡ 0 → without a (xs ++ ys) ≡ xs ++ without a ys
 without_back a [] ys z = refl
 without_back a (x ∷ xs) ys z = grind (arith, nat_tests, without_back a xs ys)
 
-pub without_front : (a : ℕ) (xs ys : List ℕ) → 1 ≤ times a xs → without a (xs ++ ys) ≡ without a xs ++ ys
+without_front : (a : ℕ) (xs ys : List ℕ) → 1 ≤ times a xs → without a (xs ++ ys) ≡ without a xs ++ ys
 without_front a [] ys h = absurd (omega arith)
 without_front a (x ∷ xs) ys h = grind (arith, nat_tests, without_front a xs ys)
 
@@ -87,11 +87,11 @@ place_reverse a L o h =
 
 -- ---- which of two codes stands before the other, with a third or without it
 module _ (a b c : ℕ) (ac : a ≡ c → ⊥) (bc : b ≡ c → ⊥) where
-  pub before_without : (L : List ℕ) → ltb (place a (without c L)) (place b (without c L)) ≡ ltb (place a L) (place b L)
+  before_without : (L : List ℕ) → ltb (place a (without c L)) (place b (without c L)) ≡ ltb (place a L) (place b L)
   before_without [] = refl
   before_without (x ∷ xs) = grind (arith, nat_tests, before_without xs)
 
-  pub before_inserted : (s : ℕ) (L : List ℕ) → ltb (place a (insert L s c)) (place b (insert L s c)) ≡ ltb (place a L) (place b L)
+  before_inserted : (s : ℕ) (L : List ℕ) → ltb (place a (insert L s c)) (place b (insert L s c)) ≡ ltb (place a L) (place b L)
   before_inserted zero L = grind (arith, nat_tests)
   before_inserted (suc s) [] = grind (arith, nat_tests)
   before_inserted (suc s) (x ∷ xs) = grind (arith, nat_tests, before_inserted s xs)

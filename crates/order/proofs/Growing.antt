@@ -5,7 +5,7 @@ use Rattle.order.specs.declared.operation.Paired.{Paired}
 use Rattle.order.specs.Steps.{operation, rank_error, after_step, giving_from, rank_errors_from, lateness_from, adds_in}
 use Rattle.order.specs.Laws.{OneMore}
 
-pub adds_append : (ops : List Paired) (u v : List ℕ) → adds_in ops (u ++ v) ≡ adds_in ops u + adds_in ops v
+adds_append : (ops : List Paired) (u v : List ℕ) → adds_in ops (u ++ v) ≡ adds_in ops u + adds_in ops v
 adds_append ops [] v = omega arith
 adds_append ops (x ∷ u) v = omega (arith, adds_append ops u v)
 
@@ -22,7 +22,7 @@ module _ (seat : SeatRule) (ops : List Paired) where
   ranks_append [] v L = refl
   ranks_append (x ∷ u) v L = ap (λ l. rank_error (operation ops x).deed L ∷ l) (ranks_append u v (after_step seat x (operation ops x).deed L))
 
-  pub lateness_append : (a : ℕ) (u v L : List ℕ) → lateness_from seat ops a L (u ++ v) ≡ lateness_from seat ops a L u + lateness_from seat ops a (giving_from seat ops L u) v
+  lateness_append : (a : ℕ) (u v L : List ℕ) → lateness_from seat ops a L (u ++ v) ≡ lateness_from seat ops a L u + lateness_from seat ops a (giving_from seat ops L u) v
   lateness_append a [] v L = omega arith
   lateness_append a (x ∷ u) v L = omega (arith, lateness_append a u v (after_step seat x (operation ops x).deed L))
 

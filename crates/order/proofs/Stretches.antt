@@ -24,9 +24,9 @@ place_before a (y ∷ v) w g =
     cond_both (eqb a y) 0 (suc (place a (v ++ w))) (λ n. n ≤ suc (length v)) (λ e. omega arith) (λ e. omega (arith, place_before a v w g))
 
 -- the items before the answer are a stretch
-cut : (d : Deed) (L : List ℕ) → has_rank d L ≡ true → Stretch d L (rank_error d L)
-cut Add L h = record { before = []; removed = []; behind = L; parts = refl; count = refl; gives = tt }
-cut (Take a) L h =
+items_before : (d : Deed) (L : List ℕ) → has_rank d L ≡ true → Stretch d L (rank_error d L)
+items_before Add L h = record { before = []; removed = []; behind = L; parts = refl; count = refl; gives = tt }
+items_before (Take a) L h =
     let l : place a L < length L = ltb-true (place a L) (length L) h in
     record {
       before = [];
@@ -36,8 +36,8 @@ cut (Take a) L h =
       count = length-take-le (place a L) L (omega arith);
       gives = place_gives a L l;
     }
-cut TakeOfNone L h = absurd (both_ways false refl h)
-cut FoundEmpty L h = record { before = []; removed = L; behind = []; parts = sym (append-nil L); count = refl; gives = tt }
+items_before TakeOfNone L h = absurd (both_ways false refl h)
+items_before FoundEmpty L h = record { before = []; removed = L; behind = []; parts = sym (append-nil L); count = refl; gives = tt }
 
 least : (d : Deed) (u v w : List ℕ) → Gives d (u ++ w) → rank_error d (u ++ (v ++ w)) ≤ length v
 least Add u v w g = omega arith
@@ -59,7 +59,7 @@ gives_rank FoundEmpty u v w g = refl
 
 pub shortest : (d : Deed) (L : List ℕ) → has_rank d L ≡ true → ShortestStretch d L (rank_error d L)
 shortest d L h = record {
-  stretch = cut d L h;
+  stretch = items_before d L h;
   fewest = λ s z. omega (arith, ap (rank_error d) z.parts, least d z.before z.removed z.behind z.gives, z.count);
 }
 

@@ -19,11 +19,11 @@ later ops m (x ∷ p) (t ∷ ts) b i h =
     (λ e l. omega (arith, ap (λ y. (operation ops y).end) (eqb-true b x e))) (λ e l. omega (arith, later ops t p ts b i.3 (omega arith))) h
 
 module _ (seat : SeatRule) (ops : List Paired) (k : ℕ) where
-  pub place_all : (p done L : List ℕ) (m : ℕ) (ts : List ℕ) → AllByRecursion (λ x. x < length ops) p → ((b : ℕ) → b < length ops → times b done + times b p ≡ 1)
+  placed_of_timed : (p done L : List ℕ) (m : ℕ) (ts : List ℕ) → AllByRecursion (λ x. x < length ops) p → ((b : ℕ) → b < length ops → times b done + times b p ≡ 1)
       → WithinBound seat ops k L p → InstantsFrom ops m p ts → PlacedFrom seat ops k done L p
-  place_all [] done L m ts low one within_bound i = tt
-  place_all (x ∷ p) done L m [] low one within_bound i = absurd i
-  place_all (x ∷ p) done L m (t ∷ ts) low one within_bound i = (
+  placed_of_timed [] done L m ts low one within_bound i = tt
+  placed_of_timed (x ∷ p) done L m [] low one within_bound i = absurd i
+  placed_of_timed (x ∷ p) done L m (t ∷ ts) low one within_bound i = (
     record {
       known = low.0;
       fresh = omega (arith, times_here x x p refl, one x low.0);
@@ -31,7 +31,7 @@ module _ (seat : SeatRule) (ops : List Paired) (k : ℕ) where
       ranked = within_bound.0;
       small = within_bound.1;
     },
-    place_all p (x ∷ done) (after_step seat x (operation ops x).deed L) t ts low.1 (λ b l. omega (arith, one b l)) within_bound.2 i.3,
+    placed_of_timed p (x ∷ done) (after_step seat x (operation ops x).deed L) t ts low.1 (λ b l. omega (arith, one b l)) within_bound.2 i.3,
   )
 
   pub placed_known : (p done L : List ℕ) → PlacedFrom seat ops k done L p → AllByRecursion (λ x. x < length ops) p
@@ -63,7 +63,7 @@ module _ (seat : SeatRule) (ops : List Paired) (k : ℕ) where
 
   pub placed_of_true : (p : List ℕ) → TrueOrder seat ops k p → Placed seat ops k p × (length p ≡ length ops)
   placed_of_true p t = (
-    place_all p [] [] 0 t.timed.instants.0 t.timed.known (λ b l. omega (arith, t.timed.once b l)) t.within_bound t.timed.instants.1,
+    placed_of_timed p [] [] 0 t.timed.instants.0 t.timed.known (λ b l. omega (arith, t.timed.once b l)) t.within_bound t.timed.instants.1,
     sym (sum_below_times (length ops) p t.timed.known) ∙ sum_below_ones (length ops) (λ a. times a p) t.timed.once,
   )
 

@@ -7,12 +7,12 @@ use Rattle.order.specs.declared.operation.Deed.TheVariants.{Add, Take, TakeOfNon
 use Rattle.order.specs.declared.operation.Paired.{Paired}
 
 -- what stands past the last operation: no answer depends on it
-abbrev pub nothing : Paired
-nothing = record { deed = Add; thread = 0; start = 0; end = 0 }
+abbrev pub no_operation : Paired
+no_operation = record { deed = Add; thread = 0; start = 0; end = 0 }
 
 -- the operation with the number x
 abbrev pub operation : List Paired → ℕ → Paired
-operation ops x = slice_index_or ops x nothing
+operation ops x = slice_index_or ops x no_operation
 
 -- ---- one step, at the giving list L
 

@@ -8,13 +8,13 @@ use Rattle.sheet.specs.Sheets.{memory, entered, SameLoan}
 
 module _ {I : Type 0} where
   -- memory as it was: the operations entered are over its front
-  pub over_same : (s : Sheet I) → memory s ≡ over (entered s) (memory s)
+  over_same : (s : Sheet I) → memory s ≡ over (entered s) (memory s)
   over_same s =
       let l = length-take-le s.count (memory s) s.within in
       sym (take-append-drop s.count (memory s)) ∙ ap (λ n. take s.count (memory s) ++ drop n (memory s)) (sym l)
 
   -- a list over memory that has one of at most its length over its front: that one is gone
-  pub over_twice : (os fin mem : List (Operation I)) → length os ≤ length fin → over fin (over os mem) ≡ over fin mem
+  over_twice : (os fin mem : List (Operation I)) → length os ≤ length fin → over fin (over os mem) ≡ over fin mem
   over_twice os fin mem h =
       let d = length fin - length os in
       let e : length os + d ≡ length fin = omega arith in

@@ -55,9 +55,9 @@ module _ {I : Type 0} (t : Ghosts I) (room : ℕ) (bs : List ℕ) where
       ap (records_taken t room bs) (suc-add d i) ∙ ap (after_next t room bs (d + i)) q
 
   -- one more record
-  one_more : (i : ℕ) (os : List (Operation I)) (rec : List ℕ) (r : RecordsTaken I) → records_taken t room bs i ≡ going os → rec ≡ record_at i bs →
+  taken_next : (i : ℕ) (os : List (Operation I)) (rec : List ℕ) (r : RecordsTaken I) → records_taken t room bs i ≡ going os → rec ≡ record_at i bs →
       after_record os i (operation_taken t room os rec) ≡ r → records_taken t room bs (i + 1) ≡ r
-  one_more i os rec r p q s =
+  taken_next i os rec r p q s =
       ap (records_taken t room bs) (add-one i) ∙ ap (after_next t room bs i) p ∙ ap (λ z. after_record os i (operation_taken t room os z)) (sym q) ∙ s
 
   -- a turn of the loop over the records, on a sheet whose room is as it was
@@ -67,16 +67,16 @@ module _ {I : Type 0} (t : Ghosts I) (room : ℕ) (bs : List ℕ) where
     counted : i < record_count bs
     counted = let l = ap length all ∙ length_records bs in omega arith
 
-    pub turn : records_taken t room bs (i + 1) ≡ left_after (with_place i r) fin
-    turn =
+    pub one_taken : records_taken t room bs (i + 1) ≡ left_after (with_place i r) fin
+    one_taken =
         let here = ap (λ rs. get_or rs i []) all ∙ record_in_turn i bs [] counted in
-        one_more i os (get_or recs i []) (left_after (with_place i r) fin) before here (ap (λ m. after_record os i (operation_taken t m os (get_or recs i []))) (sym same) ∙ step i ∙ left_with_place i r fin)
+        taken_next i os (get_or recs i []) (left_after (with_place i r) fin) before here (ap (λ m. after_record os i (operation_taken t m os (get_or recs i []))) (sym same) ∙ step i ∙ left_with_place i r fin)
 
-    pub turn_refused : (e : RefusedRecord) → with_place i r ≡ Err e → records_taken t room bs (record_count bs) ≡ stopped fin e.place e.fault
-    turn_refused e p =
+    pub one_refused : (e : RefusedRecord) → with_place i r ≡ Err e → records_taken t room bs (record_count bs) ≡ stopped fin e.place e.fault
+    one_refused e p =
         let n = record_count bs in
         let k : record_count bs - (i + 1) + (i + 1) ≡ record_count bs = let h = counted in omega arith in
-        ap (records_taken t room bs) (sym k) ∙ stays (n - (i + 1)) (i + 1) e.place fin e.fault (turn ∙ ap (λ m. left_after m fin) p)
+        ap (records_taken t room bs) (sym k) ∙ stays (n - (i + 1)) (i + 1) e.place fin e.fault (one_taken ∙ ap (λ m. left_after m fin) p)
 
 module _ {I : Type 0} (t : Ghosts I) (room : ℕ) where
   entered_back : (os : List (Operation I)) (x op : Operation I) (r : Result ℕ SheetFault) → enter_answer t.number room os x ≡ r → if_entered x r ≡ Ok op →
@@ -155,7 +155,7 @@ module _ {I : Type 0} (t : Ghosts I) (law : Lawful t) (room : ℕ) (bs : List �
       ap (λ z. if_decoded t room pre (decode_record t z)) r ∙ ap (if_decoded t room pre) (record_there t law op f.0)
       ∙ ap (if_entered op) f.1 in
       let s : records_taken t room bs (length pre + 1) ≡ going (pre ++ op ∷ []) =
-      one_more t room bs (length pre) pre (record_at (length pre) bs) (going (pre ++ op ∷ [])) p refl (ap (after_record pre (length pre)) k) in
+      taken_next t room bs (length pre) pre (record_at (length pre) bs) (going (pre ++ op ∷ [])) p refl (ap (after_record pre (length pre)) k) in
       let lq = length_push pre op in
       let e₂ : bs ≡ head ++ (flat_map enc (pre ++ op ∷ []) ++ (flat_map enc ops ++ rest)) =
       e ∙ ap (λ z. head ++ z) (simp append_assoc) ∙ ap (λ z. head ++ (z ++ tail)) (flat_map_more enc [] pre op) in

@@ -4,7 +4,7 @@ ghost use Rattle.std.specs.List.{slice_get};
 ghost use Rattle.sheet.specs.Sheets.{entered};
 ghost use Rattle.docket.specs.Pairs.{paired_of, paired_all};
 ghost use Rattle.docket.specs.InAgreement.{ops_of};
-ghost use Rattle.order.specs.Steps.{nothing};
+ghost use Rattle.order.specs.Steps.{no_operation};
 ghost use Rattle.docket.specs.Kept.{fresh, entry_of};
 
 use crate::entry::Entry;
@@ -38,9 +38,9 @@ pub(crate) fn paired<I: Item>(sheet: &Sheet<I>, number: usize, operation: &Opera
     }
 }
 
-// The entry of the operation of that number, before any step. Past the operations it is that of nothing.
+// The entry of the operation of that number, before any step. Past the operations it is that of no operation.
 fn entry_at<I: Item>(sheet: &Sheet<I>, number: usize) -> Entry
-    ensures { result ≡ fresh (slice_index_or (paired_all I.Item.number (entered sheet.now)) number nothing) }
+    ensures { result ≡ fresh (slice_index_or (paired_all I.Item.number (entered sheet.now)) number no_operation) }
 {
     let operation = match sheet.all().get(number) {
         Some(operation) => paired(sheet, number, operation),

@@ -7,7 +7,7 @@ use Rattle.frame.proofs.RecordPlaces.{length_records}
 use Rattle.trace.specs.Reading.{records_taken}
 use Rattle.trace.specs.Reading.RecordsTaken.{going}
 use Rattle.trace.specs.Answers.{left_after}
-use Rattle.trace.proofs.RecordsTaken.{with_place, turn, turn_refused}
+use Rattle.trace.proofs.RecordsTaken.{with_place, one_taken, one_refused}
 use Rattle.trace.proofs.read.take_all.Goals as goal
 
 pub loop-place-init : goal.loop-place-init
@@ -28,7 +28,7 @@ returns-in_err-map_err g c =
     let q : c.map_err.result ≡ with_place c.loop-place.place c.take_record.result = search rules in
     rw (p.1, p.2) (record {
       taken =
-          turn_refused g.I.Item (room c.args.sheet.now) c.args.trace.now.bytes.now c.loop-place.place (room s) c.records-rec-items.result.now (entered s) (entered fin)
+          one_refused g.I.Item (room c.args.sheet.now) c.args.trace.now.bytes.now c.loop-place.place (room s) c.records-rec-items.result.now (entered s) (entered fin)
           c.take_record.result c.records-rec-items.ensures c.loop-place-test.true v.taken v.loan.room e.step c.in_err-map_err.field-0.0 (sym q ∙ c.in_err-map_err.was);
       loan = loan_twice c.args.sheet.now s fin v.loan e.loan e.grows;
     })
@@ -42,7 +42,7 @@ loop-place-preserved g c =
     let q : c.map_err.result ≡ with_place c.loop-place.place c.take_record.result = search rules in
     record {
       taken =
-          turn g.I.Item (room c.args.sheet.now) c.args.trace.now.bytes.now c.loop-place.place (room s) c.records-rec-items.result.now (entered s) (entered fin)
+          one_taken g.I.Item (room c.args.sheet.now) c.args.trace.now.bytes.now c.loop-place.place (room s) c.records-rec-items.result.now (entered s) (entered fin)
           c.take_record.result c.records-rec-items.ensures c.loop-place-test.true v.taken v.loan.room e.step
           ∙ ap (λ r. left_after r (entered fin)) (sym q ∙ c.in_ok-map_err.was);
       loan = loan_twice c.args.sheet.now s fin v.loan e.loan e.grows;

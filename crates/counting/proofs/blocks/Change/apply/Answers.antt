@@ -1,13 +1,13 @@
 use Rattle.std.proofs.Common.{◌+◌, ◌-◌, get_or, arith, length-set}
 use Rattle.counting.specs.Blocks.{block, worth}
 use Rattle.counting.specs.Sums.{counted_from_on, counted_from_off}
-use Rattle.counting.proofs.BlocksWithPosition.{walk_start, walk_more}
+use Rattle.counting.proofs.BlocksWithPosition.{changed_none, changed_more}
 use Rattle.counting.proofs.blocks.Change.apply.Goals as goal
 
 pub loop-p-init : goal.loop-p-init
 loop-p-init c =
     let change = c.args.self.now in
-    (omega arith, walk_start (change.slot.number + 1) (worth change.before) (worth change.after) c.args.sums.now (omega arith) (omega arith))
+    (omega arith, changed_none (change.slot.number + 1) (worth change.before) (worth change.after) c.args.sums.now (omega arith) (omega arith))
 
 pub loop-p-preserved : goal.loop-p-preserved
 loop-p-preserved c =
@@ -21,5 +21,5 @@ loop-p-preserved c =
     let read = i.rest p (omega arith) in
     let enough = c.requires.enough p (omega arith) (omega arith) in (
       simp length-set c.loop-p.invariant.0,
-      rw c.block_len-p.ensures.value (walk_more q less more p (get_or c.loop-p.sums p 0 + c.counted-more.result - c.counted-less.result) c.args.sums.now c.loop-p.sums (omega arith) c.loop-p-test.true (omega arith) (omega arith) i),
+      rw c.block_len-p.ensures.value (changed_more q less more p (get_or c.loop-p.sums p 0 + c.counted-more.result - c.counted-less.result) c.args.sums.now c.loop-p.sums (omega arith) c.loop-p-test.true (omega arith) (omega arith) i),
     )

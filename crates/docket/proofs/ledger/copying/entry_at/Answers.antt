@@ -1,6 +1,6 @@
 use Rattle.std.proofs.Common.{◌≡◌, get_or, sym, ap, ◌∙◌}
 use Rattle.sheet.specs.Sheets.{entered}
-use Rattle.order.specs.Steps.{nothing}
+use Rattle.order.specs.Steps.{no_operation}
 use Rattle.docket.specs.Kept.{fresh}
 use Rattle.docket.specs.Pairs.{paired_all}
 use Rattle.docket.proofs.Entered.{found_at, paired_at, paired_past}
@@ -19,7 +19,7 @@ returns g c =
     let os = entered c.args.sheet.now in
     let k = c.args.number in
     let same = c.all.ensures.entered in
-    let is : c.match-get.operation ≡ get_or (paired_all number os) k nothing =
+    let is : c.match-get.operation ≡ get_or (paired_all number os) k no_operation =
     elim c.match-get.branch [
       | in-Some w ↦
           let found = w.in-Some.ensures.lookup in
