@@ -1,5 +1,6 @@
 //! Made-up cases, answered by the proved library and by the reference in one program.
 
+use crate::examining::{by_proved, by_reference};
 use reference::cases::{answer, Case};
 use reference::generate::{Generator, Made};
 
@@ -21,7 +22,17 @@ fn by_library(made: &Made, room: &mut [u8]) -> Option<String> {
     Some(String::from_utf8_lossy(text).into_owned())
 }
 
-/// How many cases of the seed are answered differently. Each is told on standard error.
+/// Whether both come to the same of the case's body taken as a trace. Where they do not, it is told on standard error.
+fn examined_alike(seed: u64, number: usize, made: &Made) -> bool {
+    let (proved, expected) = (by_proved(&made.body), by_reference(&made.body));
+    if proved != expected {
+        eprintln!("seed {seed}, case {number}: the reference makes of the body\n{expected}\nand the proved library\n{proved}");
+    }
+    proved == expected
+}
+
+/// How many cases of the seed are answered differently, or have a body that is examined differently. Each is told on
+/// standard error.
 pub fn differences(seed: u64, cases: usize) -> usize {
     let mut room = vec![0; ROOM];
     let made = Generator::new(seed, &[]).take(cases).enumerate();
@@ -31,7 +42,8 @@ pub fn differences(seed: u64, cases: usize) -> usize {
         if said != expected {
             eprintln!("seed {seed}, case {number}: the reference answers\n{expected}\nand the proved library\n{said}");
         }
-        said != expected
+        let alike = examined_alike(seed, *number, made);
+        said != expected || !alike
     });
     differ.count()
 }

@@ -37,9 +37,10 @@ extern "C" {
     );
 }
 
-/// The certificate, or nothing where it was refused, and what the buffers then hold.
+/// The certificate, or the refusal's layer, number, place and detail, and what the buffers then hold.
+#[derive(PartialEq)]
 pub struct Examined {
-    certificate: Option<[usize; 3]>,
+    answer: Result<[usize; 3], [usize; 4]>,
     ranks: Vec<u16>,
     instants: Vec<u64>,
     latenesses: Vec<u16>,
@@ -47,7 +48,7 @@ pub struct Examined {
 
 impl fmt::Display for Examined {
     fn fmt(&self, f: &mut fmt::Formatter) -> fmt::Result {
-        write!(f, "{:?} {:?} {:?} {:?}", self.certificate, self.ranks, self.instants, self.latenesses)
+        write!(f, "{:?} {:?} {:?} {:?}", self.answer, self.ranks, self.instants, self.latenesses)
     }
 }
 
@@ -72,8 +73,19 @@ pub fn by_proved(bytes: &[u8]) -> Examined {
             &mut outcome,
         );
     }
-    let granted = [outcome.total as usize, outcome.largest.into(), outcome.first.into()];
-    Examined { certificate: (outcome.status == 0).then_some(granted), ranks, instants, latenesses }
+    let answer = if outcome.status == 0 {
+        Ok([outcome.total as usize, outcome.largest.into(), outcome.first.into()])
+    } else {
+        Err([outcome.layer.into(), outcome.number.into(), outcome.place.into(), outcome.detail.into()])
+    };
+    Examined { answer, ranks, instants, latenesses }
+}
+
+/// A refusal in the numbers of docs/LIBRARY.md.
+fn in_numbers(refusal: Refusal) -> [usize; 4] {
+    let layers = ["frame", "record", "item", "sheet", "docket", "holder"];
+    let layer = layers.iter().position(|layer| *layer == refusal.fault.layer());
+    [layer.map_or(0, |at| at + 1), refusal.fault.number().into(), refusal.place, refusal.detail]
 }
 
 /// The reference's certificate in the buffers, or its refusal.
@@ -97,6 +109,6 @@ pub fn by_reference(bytes: &[u8]) -> Examined {
         instants: vec![0; MOST_OPERATIONS],
         lateness: vec![0; MOST_OPERATIONS],
     };
-    let certificate = certify(bytes, &mut buffers).ok();
-    Examined { certificate, ranks: buffers.ranks, instants: buffers.instants, latenesses: buffers.lateness }
+    let answer = certify(bytes, &mut buffers).map_err(in_numbers);
+    Examined { answer, ranks: buffers.ranks, instants: buffers.instants, latenesses: buffers.lateness }
 }

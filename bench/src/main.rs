@@ -56,7 +56,7 @@ fn time(file: &str, times: &str) -> Option<()> {
 fn compare(first: &str, seeds: &str, cases: &str) -> Option<bool> {
     let (first, seeds, cases): (u64, u64, usize) = (first.parse().ok()?, seeds.parse().ok()?, cases.parse().ok()?);
     let differ: usize = (first..first.checked_add(seeds)?).map(|seed| differences(seed, cases)).sum();
-    println!("{seeds} seeds from {first}, {cases} cases each: {differ} answers differ");
+    println!("{seeds} seeds from {first}, {cases} cases each: {differ} differ");
     Some(differ == 0)
 }
 
