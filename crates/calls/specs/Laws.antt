@@ -24,7 +24,7 @@ module _ (seat : SeatRule) (ops : List Paired) (k : ℕ) (calls : List Call) whe
   abbrev pub EveryStepWasAcceptable : Type 0
   EveryStepWasAcceptable = Placed seat ops k steps
 
-  -- an answer of place means exactly its condition, and no earlier one
+  -- place gives an answer exactly where the condition of that answer holds
   abbrev pub PlacingIsJudgedByTheRules : Type 0
   PlacingIsJudgedByTheRules = (x : ℕ) (a : Result ℕ DocketFault)
       → (place_answer seat ops k steps x ≡ a → Placing seat ops k steps x a) × (Placing seat ops k steps x a → place_answer seat ops k steps x ≡ a)

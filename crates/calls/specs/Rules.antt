@@ -40,8 +40,8 @@ abbrev pub bounded_rank : ℕ → ℕ → Option ℕ → Result ℕ DocketFault
 bounded_rank m k None = Err (NotHeld m)
 bounded_rank m k (Some r) = cond (nat_lt k r) (Err (AboveBound m r)) (Ok r)
 
--- the rules in their order, of the step x after m others of n operations, with the bound k: by whether x is placed, by the operation
--- that it waits for, if any, and by its rank error, if it has one; opened only where a proof names it
+-- the rules in their order, of the step x after m others of n operations, with the bound k: by whether x is placed, by the
+-- operation that it waits for, if any, and by its rank error, if it has one; opened only where a proof names it
 unfoldable pub judged_answer : ℕ → ℕ → ℕ → ℕ → Bool → Option ℕ → Option ℕ → Result ℕ DocketFault
 judged_answer m n x k placed w r = cond (nat_le n x) (Err (NoSuchOperation m)) (cond placed (Err (PlacedAlready m)) (unless_early m w (bounded_rank m k r)))
 

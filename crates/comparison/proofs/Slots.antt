@@ -30,10 +30,10 @@ none_left bytes e = all_end front_docket_call bytes (none_mapped (front_docket_c
 -- a slot for the call at the front
 pub slot_taken : (bytes after : List ℕ) (made : Result Slot AllocError) → Some after ≡ option_map (λ q. q.1) (front_docket_call bytes) →
     IfSome (front_docket_call bytes) (λ q. IsSlotFor q.0 made) → TakesFirst (docket_calls bytes) (Some made) (docket_calls after)
-slot_taken bytes after made e asks =
+slot_taken bytes after made e slot =
     let m = some_mapped (front_docket_call bytes) after e in
     let whole : docket_calls bytes ≡ m.0.0 ∷ docket_calls after = all_behind front_docket_call docket_shorter bytes m.0 m.1 ∙ ap (λ l. m.0.0 ∷ docket_calls l) m.2 in
-    (m.0.0, whole, asked (front_docket_call bytes) m.0 made m.1 asks)
+    (m.0.0, whole, asked (front_docket_call bytes) m.0 made m.1 slot)
 
 -- the slot that is made stands in front of the calls that are left
 pub slot_before : (before after : List Call) (made : Result Slot AllocError) → TakesFirst before (Some made) after → IfOk made (λ slot. before ≡ call_of slot ∷ after)

@@ -83,13 +83,13 @@ TakesMemory (run order) = Unit {0}
 TakesMemory lift = ⊥
 TakesMemory (certify buffers) = Unit {0}
 
--- a slot that is made for a call has it, and memory is wanting only where one takes some
+-- a slot that is made for a call has it, and memory is wanting only for a run or a certify
 abbrev pub IsSlotFor : Call → Result Slot AllocError → Type 0
 IsSlotFor call made = MatchResult made (λ slot. call_of slot ≡ call) (λ e. TakesMemory call)
 
--- the slot is one for the call that is told
-abbrev pub AsksFor : Option (Call × List ℕ) → Option (Result Slot AllocError × Bor (List ℕ)) → Type 0
-AsksFor told r = IfSome r (λ p. IfSome told (λ q. IsSlotFor q.0 p.0))
+-- the slot is one for the call at the front
+abbrev pub IsSlotForFront : Option (Call × List ℕ) → Option (Result Slot AllocError × Bor (List ℕ)) → Type 0
+IsSlotForFront front r = IfSome r (λ p. IfSome front (λ q. IsSlotFor q.0 p.0))
 
 -- from one list of calls to another: the first call is taken, and a slot made for it; none where no call is left
 abbrev pub TakesFirst : List Call → Option (Result Slot AllocError) → List Call → Type 0

@@ -56,7 +56,8 @@ bytes_of_holder_call call = bytes_of_parts (holder_parts call)
 abbrev pub HolderCallFits : HolderCall → Type 0
 HolderCallFits call = Small (holder_parts call).1
 
--- the calls that bytes say are those that stand there one after another, up to the end, to one that is cut off, or to a byte that is no call
+-- the calls that bytes say are those that stand there one after another, up to the end, to one that is cut off, or to a byte
+-- that is no call
 abbrev pub HolderCallsAreReadBack : Type 0
 HolderCallsAreReadBack = (calls : List HolderCall) (rest : List ℕ) → AllByRecursion HolderCallFits calls → IsCutOff HolderCallFits bytes_of_holder_call rest ⊎ StartsWithNoCall 6 rest
     → holder_calls (flat_map bytes_of_holder_call calls ++ rest) ≡ calls

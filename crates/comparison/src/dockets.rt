@@ -10,7 +10,7 @@ ghost use Rattle.docket.specs.Pairs.{paired_all, sheet_ops};
 ghost use Rattle.docket.specs.Slots.{call_of, reply_of};
 ghost use Rattle.examination.specs.Kinds.{seat_of};
 ghost use Rattle.comparison.specs.Hashes.{hash_of, bytes_of_shorts, bytes_of_buffers};
-ghost use Rattle.comparison.specs.Calls.{with_number, blank_buffers, run_of_numbers, certify_of_numbers, front_docket_call, docket_calls, IsSlotFor, AsksFor, TakesFirst};
+ghost use Rattle.comparison.specs.Calls.{with_number, blank_buffers, run_of_numbers, certify_of_numbers, front_docket_call, docket_calls, IsSlotFor, IsSlotForFront, TakesFirst};
 ghost use Rattle.comparison.specs.Cases.{of_trace, words_of_answers, words_of_session, words_of_docket, docket_case};
 ghost use Rattle.comparison.specs.Words.{words_of_answer, words_of_held};
 
@@ -68,7 +68,7 @@ fn certify_slot(
 // A slot with the run at the front of the bytes, and the bytes behind it; none where no whole one stands there.
 fn next_run(heap: Global, bytes: &[u8]) -> Option<(Result<Slot, AllocError>, &[u8])>
     ensures behind { option_map (λ p. p.1.now) result ≡ option_map (λ q. q.1) (with_number bytes.now run_of_numbers) }
-    ensures asks { AsksFor (with_number bytes.now run_of_numbers) result }
+    ensures slot { IsSlotForFront (with_number bytes.now run_of_numbers) result }
 {
     let (count, behind) = next_number(bytes)?;
     let (order, behind) = behind.split_at_checked(2 * count as usize)?;
@@ -78,7 +78,7 @@ fn next_run(heap: Global, bytes: &[u8]) -> Option<(Result<Slot, AllocError>, &[u
 // A slot with the certify at the front of the bytes, and the bytes behind it; none where no whole one stands there.
 fn next_certify(heap: Global, bytes: &[u8]) -> Option<(Result<Slot, AllocError>, &[u8])>
     ensures behind { option_map (λ p. p.1.now) result ≡ option_map (λ q. q.1) (certify_of_numbers bytes.now) }
-    ensures asks { AsksFor (certify_of_numbers bytes.now) result }
+    ensures slot { IsSlotForFront (certify_of_numbers bytes.now) result }
 {
     let (ranks, behind) = next_number(bytes)?;
     let (instants, behind) = next_number(behind)?;
@@ -89,7 +89,7 @@ fn next_certify(heap: Global, bytes: &[u8]) -> Option<(Result<Slot, AllocError>,
 // A slot with the call at the front of the bytes, and the bytes behind it; none where no whole call stands there.
 fn next_slot(heap: Global, bytes: &[u8]) -> Option<(Result<Slot, AllocError>, &[u8])>
     ensures behind { option_map (λ p. p.1.now) result ≡ option_map (λ q. q.1) (front_docket_call bytes.now) }
-    ensures asks { AsksFor (front_docket_call bytes.now) result }
+    ensures slot { IsSlotForFront (front_docket_call bytes.now) result }
 {
     let (tag, behind) = bytes.split_first()?;
     let answer = Err(DocketFault::NothingToLift);

@@ -37,7 +37,7 @@ module _ {I : Type 0} (number : I → ℕ) (all os : List (Operation I)) (k : �
       (omega (arith, ltb-false k (length all) (sym h), ap (length {A = Operation I}) same, length-map os (paired_of number os)))
 
 -- the entry of number x, where ps are the operations
-abbrev pub entry_before : List Paired → ℕ → Entry
+abbrev entry_before : List Paired → ℕ → Entry
 entry_before ps x = fresh (get_or ps x no_operation)
 
 -- n entries that calls made of the operations ps, and of no operation past them

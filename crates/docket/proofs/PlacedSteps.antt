@@ -14,7 +14,7 @@ use Rattle.docket.specs.Kept.{entry_of, StepsAreOperations, Flagged}
 use Rattle.docket.specs.Moves.{with_flag, changed_at}
 use Rattle.docket.proofs.Table.{changed_here, changed_there}
 
-pub known_all : (n m : ℕ) (ss : List ℕ) → m ≤ length ss → StepsAreOperations n ss m → AllByRecursion (λ x. x < n) (take m ss)
+known_all : (n m : ℕ) (ss : List ℕ) → m ≤ length ss → StepsAreOperations n ss m → AllByRecursion (λ x. x < n) (take m ss)
 known_all n m ss l h =
     let e = length-take-le m ss l in
     All-from_get_or (λ (x : ℕ). x < n) (take m ss) 0 (λ i il. let im : i < m = omega arith in rw get_or-take (h i im))
@@ -75,7 +75,7 @@ module _ (ss : List ℕ) (m x : ℕ) (h : 0 < m) (l : m ≤ length ss) (is : x �
   pub once_removed : Once (take m ss) → Once (take (m - 1) ss)
   once_removed once y = omega (arith, ap (times y) last_step, times_push y x (take (m - 1) ss), once y)
 
-  pub none_before : Once (take m ss) → times x (take (m - 1) ss) ≡ 0
+  none_before : Once (take m ss) → times x (take (m - 1) ss) ≡ 0
   none_before once = omega (arith, ap (times x) last_step, times_self x (take (m - 1) ss), once x)
 
   pub flagged_removed : (es : List Entry) (n : ℕ) → x < length es → Once (take m ss) → Flagged es n ss m → Flagged (changed_at (with_flag false) es x) n ss (m - 1)

@@ -1,14 +1,13 @@
 -- A docket in agreement stays in agreement, and answers by the rules. Assumes nothing.
-use Rattle.std.proofs.Common.{◌≡◌, ℕ, ◌+◌, ◌<◌, ◌≤◌, Bool, true, false, not, ◌&&◌, eqb, ltb, List, [], ◌∷◌, ◌++◌, map, length, get_or, take, set, Some, None, Ok, Err, Option, sym, refl, ap, ◌∙◌, ⊎_elim, arith}
+use Rattle.std.proofs.Common.{◌≡◌, ℕ, ◌+◌, ◌<◌, ◌≤◌, Bool, true, false, not, ◌&&◌, eqb, ltb, List, [], ◌∷◌, ◌++◌, map, length, get_or, take, set, Some, None, Ok, Option, sym, refl, ap, ◌∙◌, ⊎_elim, arith}
 use Rattle.std.specs.List.{AllByRecursion, position}
 use Rattle.std.proofs.ByRecursion.{All-from_get_or}
 use Rattle.std.proofs.lemmas.List.{take_more_set, length-take-le, length-map, get_or-map, take-map, get_or-take}
-use Rattle.std.proofs.lemmas.Bool.{cases_lt, cases_Bool, le-leb, cond-true, cond-false}
+use Rattle.std.proofs.lemmas.Bool.{cases_lt, cases_Bool, cond-false}
 use Rattle.giving.specs.Lists.{SeatRule, times}
 use Rattle.order.specs.declared.operation.Deed.{Deed}
 use Rattle.order.specs.declared.operation.Paired.{Paired}
 use Rattle.order.specs.Steps.{operation, has_rank, rank_error, after_step, passes_over, giving_after, rank_errors, lateness, items_added, adds_in}
-use Rattle.calls.specs.declared.fault.DocketFault.TheVariants.{NoSuchOperation}
 use Rattle.calls.specs.Rules.{lowest, unplaced, waits_for, unless_early, rank_if_any, bounded_rank, judged_answer, place_answer}
 use Rattle.docket.specs.declared.entry.Entry.{Entry}
 use Rattle.docket.specs.declared.step.Step.{Step}
@@ -190,7 +189,7 @@ module _ (seat : SeatRule) (l m : Ledger) (L : List ℕ) (x r : ℕ)
       ap (λ (n : ℕ). take n (map paired_in m.entries)) count_is
       ∙ ap (take l.count) (ap (map paired_in) es-is ∙ map_keeps_one paired_in (with_flag true) (λ e. refl) (changed_all (with_late one_more) l.entries (take r L)) x ∙ map_keeps_all paired_in (with_late one_more) (λ e. refl) (take r L) l.entries)
 
-  pub placed_steps : steps_of m ≡ steps_of l ++ x ∷ []
+  placed_steps : steps_of m ≡ steps_of l ++ x ∷ []
   placed_steps = ap (λ (n : ℕ). take n (numbers_in m.steps)) placed-is ∙ ap (take (l.placed + 1)) ss-is ∙ take_more_set (numbers_in l.steps) l.placed x (omega (arith, fits, long_numbers l))
 
   module _ (n n' : ℕ) (L' : List ℕ) (i : InAgreement seat L n l)

@@ -1,4 +1,4 @@
--- The table read as operations, and its entries changed at one code after another: what that changes and what it leaves. Assumes nothing.
+-- The table read as operations, and what its entries are after changes at one code after another. Assumes nothing.
 use Rattle.std.proofs.Common.{◌≡◌, ℕ, zero, suc, ◌+◌, ◌-◌, ◌<◌, ◌≤◌, List, [], ◌∷◌, ◌++◌, map, length, get_or, take, sym, refl, ap, ◌∙◌, ⊎_elim, arith, length-set}
 use lib.ListN.{length-map}
 use Rattle.std.proofs.lemmas.List.{get_or-take, get_or-map, get_or-set_same, get_or-set_other, length-take-le, take_more}
@@ -51,7 +51,7 @@ module _ {Y : Type 0} (part : Entry → Y) (f : Entry → Entry) (es : List Entr
   changed_there e = ap part (get_or-set_other es c k (f (entry_of es c)) blank e)
 
 -- f applied n times to v
-abbrev pub applied : (ℕ → ℕ) → ℕ → ℕ → ℕ
+abbrev applied : (ℕ → ℕ) → ℕ → ℕ → ℕ
 applied f zero v = v
 applied f (suc n) v = applied f n (f v)
 
@@ -89,7 +89,7 @@ flags_kept f l fs cs e = λ x h. flag_kept f l.entries fs cs x e ∙ l.flagged x
 
 -- ---- the entries changed at one code after another
 module _ (f : Entry → Entry) where
-  pub changed_push : (es : List Entry) (cs : List ℕ) (c : ℕ) → changed_all f es (cs ++ c ∷ []) ≡ changed_at f (changed_all f es cs) c
+  changed_push : (es : List Entry) (cs : List ℕ) (c : ℕ) → changed_all f es (cs ++ c ∷ []) ≡ changed_at f (changed_all f es cs) c
   unfolding changed_all
   changed_push es [] c = refl
   changed_push es (d ∷ cs) c = changed_push (changed_at f es d) cs c

@@ -6,7 +6,7 @@ use Rattle.docket.specs.declared.slot.Slot.{Slot}
 use Rattle.docket.specs.declared.slot.Slot.TheVariants.{Place, Run, Lift, Certify}
 use Rattle.docket.specs.Buffers.{owned}
 
--- the call that a slot asks
+-- the call in a slot
 abbrev pub call_of : Slot → Call
 call_of (Place x a) = place x
 call_of (Run xs n s) = run (vec_items xs)

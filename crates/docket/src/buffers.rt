@@ -8,7 +8,7 @@ use std::alloc::{AllocError, Global};
 // Three buffers that a caller lends: for the rank errors and the earliest instants by step, and for the latenesses by
 // operation.
 // Kept (C interface): three slices of two types with no count beside them, which callers in C lend one by one.
-// Kept (no plainer): `SameSlices` stays in the contracts: it relates the buffers before and after a call, and a type's invariant is of one moment.
+// Kept (no plainer): `SameSlices` stays in the contracts: it relates the buffers before and after a call, which no type can hold.
 #[derive(Drop)]
 pub struct Buffers<'a> {
     pub ranks: &'a mut [u16],

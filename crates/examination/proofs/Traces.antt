@@ -17,7 +17,7 @@ use Rattle.examination.specs.Traces.{Examined, examining}
 
 module _ {I : Type 0} (t : Ghosts I) (b : Buffers) where
   -- the examination of an order of operations, as what is said of it names it
-  abbrev pub order_examined : List (Operation I) → Said → Examined
+  abbrev order_examined : List (Operation I) → Said → Examined
   order_examined os s = record {
     answer = order_answer (seat_of s.kind) (paired_all t.number os) s.k s.order b;
     buffers = order_written (seat_of s.kind) (paired_all t.number os) s.k s.order b;

@@ -1,5 +1,5 @@
 -- What is said of the outcome of reading a trace and writing it back.
-use Rattle.std.proofs.Common.{◌≡◌, ℕ, ◌+◌, ◌*◌, Bool, true, false, cond, not, ltb, List, ◌++◌, length, drop, Some, Ok, Err, Result, sym, refl, ap, ◌∙◌, append-nil, arith, MatchResult}
+use Rattle.std.proofs.Common.{◌≡◌, ℕ, ◌+◌, ◌*◌, Bool, true, not, ltb, List, ◌++◌, length, drop, Some, Ok, Err, Result, sym, refl, ap, ◌∙◌, append-nil, arith, MatchResult}
 use Rattle.std.proofs.lemmas.List.{drop_all}
 use Rattle.std.proofs.lemmas.Bool.Decides.{Decides-eqb}
 use Rattle.std.proofs.lemmas.Slice.Eq.{slice_eq-Decides}
