@@ -41,16 +41,26 @@ fn write_upward(least: &mut [u64; 2048], number: usize, end: u64)
     }
 }
 
+// The ends of the operations of the table at their places, and elsewhere the last instant of all.
+fn with_ends(table: &[Entry]) -> [u64; 2048]
+    requires { length table.now ≤ 1024 }
+    ensures long { length result ≡ 2048 }
+    ensures ends { (x : ℕ) → x < length table.now → end_at result x ≡ (entry_of table.now x).paired.end }
+{
+    let mut least = [u64::MAX; 2048];
+    for (number, entry) in table.iter().enumerate() {
+        least[1024 + number] = entry.paired.end;
+    }
+    least
+}
+
 impl Awaited {
     // The ends of the operations of the table.
     pub(crate) fn of(table: &[Entry]) -> Awaited
         requires { length table.now ≤ 1024 }
         ensures { (x : ℕ) → x < length table.now → end_at result.least x ≡ (entry_of table.now x).paired.end }
     {
-        let mut least = [u64::MAX; 2048];
-        for (number, entry) in table.iter().enumerate() {
-            least[1024 + number] = entry.paired.end;
-        }
+        let mut least = with_ends(table);
         for place in (1..1024).rev() {
             least[place] = lesser_below(&least, place);
         }

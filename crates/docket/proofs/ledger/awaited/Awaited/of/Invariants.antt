@@ -3,9 +3,6 @@ use Rattle.docket.specs.Kept.{entry_of, end_at}
 use Rattle.docket.proofs.Awaiting.{LesserAt}
 use Rattle.docket.proofs.ledger.awaited.Awaited.of.Given as goal
 
-abbrev pub invariant-loop-number : goal.invariant-loop-number
-invariant-loop-number l = (length l.least ≡ 2048) × ((x : ℕ) → x < l.number → end_at l.least x ≡ (entry_of l.table x).paired.end)
-
 abbrev pub invariant-loop-place : goal.invariant-loop-place
 invariant-loop-place l =
     (length l.least ≡ 2048)
