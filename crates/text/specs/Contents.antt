@@ -1,5 +1,5 @@
 -- What a text holds.
-use Rattle.std.specs.Prelude.{ℕ, Bool, true, ◌&&◌, List, [], ◌++◌, length, take, drop, decimal, nat_le}
+use Rattle.std.specs.Prelude.{ℕ, Bool, true, ◌&&◌, cond, Some, None, Option, List, [], ◌++◌, length, take, drop, decimal, nat_le}
 use Rattle.text.specs.declared.piece.Piece.{Piece}
 use Rattle.text.specs.declared.piece.Piece.TheVariants.{Word, Number}
 use Rattle.text.specs.declared.text.Text.{Text}
@@ -21,6 +21,10 @@ unsaid memory lender = record { bytes = []; free = memory; whole = true; lender 
 -- with words said behind the others, as far as there is memory
 unfoldable pub with_words : List ℕ → Content → Content
 with_words ws c = record { bytes = c.bytes ++ take (length c.free) ws; free = drop (length ws) c.free; whole = c.whole && nat_le (length ws) (length c.free); lender = c.lender }
+
+-- all that was said, or none where something of it did not fit
+abbrev pub all_said : Content → Option (List ℕ)
+all_said c = cond c.whole (Some c.bytes) None
 
 -- the words of a piece
 abbrev pub piece_words : Piece → List ℕ

@@ -1,6 +1,7 @@
 // A text in memory that is lent to it.
 ghost use Rattle.std.specs.Prelude.{◌≡◌, ℕ, ◌+◌, ◌-◌, ◌<◌, ◌≤◌, true, false, List, [], ◌++◌, min, length, take, drop};
 ghost use Rattle.std.specs.List.{flat_map};
+ghost use Rattle.std.specs.Option.{option_map};
 
 use crate::piece::Piece;
 use itoa::Buffer;
@@ -27,7 +28,7 @@ fn write_at(memory: &mut [u8], at: usize, word: &[u8]) -> usize
 }
 
 impl<'a> Text<'a> {
-    ghost use Rattle.text.specs.Contents.{content, unsaid, with_words, piece_words};
+    ghost use Rattle.text.specs.Contents.{content, unsaid, with_words, all_said, piece_words};
 
     // A text of which nothing is said yet. Words that fit the memory are all said, at its front, and leave what is behind
     // them as it was; of others there is as much as the memory takes, and the text is not whole.
@@ -72,17 +73,14 @@ impl<'a> Text<'a> {
         }
     }
 
-    // What was said, as far as it fits.
-    pub fn bytes(&self) -> &[u8]
-        ensures { result.now ≡ (content self.now).bytes }
+    // All that was said, or none where something of it did not fit.
+    pub fn whole(&self) -> Option<&[u8]>
+        ensures { option_map (λ b. b.now) result ≡ all_said (content self.now) }
     {
-        &self.memory[..self.written]
-    }
-
-    // Whether all that was said fits.
-    pub fn is_whole(&self) -> bool
-        ensures { result ≡ (content self.now).whole }
-    {
-        self.whole
+        if self.whole {
+            Some(&self.memory[..self.written])
+        } else {
+            None
+        }
     }
 }
