@@ -1,4 +1,5 @@
 pub mod KindNumbers
 pub mod HeaderFields
 pub mod OrderNumbers
+pub mod FirstNumbers
 pub mod RecordPlaces

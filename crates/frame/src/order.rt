@@ -1,10 +1,10 @@
 // The proposed order: two bytes for each number.
-ghost use Rattle.std.specs.Prelude.{◌≡◌, length, map, IfOk};
+ghost use Rattle.std.specs.Prelude.{◌≡◌, length, map};
 ghost use Rattle.std.specs.Int.{from_be_bytes, w16};
 ghost use Rattle.std.specs.List.{slice_get};
-ghost use Rattle.frame.specs.Orders.{order_of};
+ghost use Rattle.frame.specs.Orders.{order_of, first_numbers};
 
-use std::alloc::{AllocError, Global};
+use std::array;
 
 // The order of a trace: numbers of 16 bits.
 // Kept (no plainer): no impl Model, since `new` promises the bytes themselves, from which one definition gives the numbers.
@@ -41,13 +41,10 @@ impl<'a> Order<'a> {
         self.pairs().get(i).map(|pair| u16::from_be_bytes(*pair))
     }
 
-    // All the numbers.
-    pub fn numbers(&self, heap: Global) -> Result<Vec<u16>, AllocError>
-        ensures { IfOk result (λ v. v.items ≡ order_of self.now) }
+    // The first `N` numbers, with 0 past the last.
+    pub fn numbers<const N: usize>(&self) -> [u16; N]
+        ensures { result ≡ first_numbers N (order_of self.now) }
     {
-        self.pairs()
-            .iter()
-            .map(|pair| u16::from_be_bytes(*pair))
-            .collect(heap)
+        array::from_fn(|i| self.at(i).unwrap_or(0))
     }
 }
