@@ -1,4 +1,3 @@
 mod Listings
 mod Verdicts
-mod Sayings
 mod Traces

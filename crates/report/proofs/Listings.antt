@@ -4,17 +4,22 @@ use Rattle.std.specs.List.{slice_get}
 use Rattle.std.proofs.lemmas.Option.{slice_get_within, get_or_from_slice_get}
 use Rattle.sheet.specs.declared.operation.Method.{Method}
 use Rattle.sheet.specs.declared.operation.Method.TheVariants.{Add, Take, FoundEmpty}
+use Rattle.text.specs.Contents.{Content, with_words}
+use Rattle.text.proofs.Contents.{then_said}
 use Rattle.report.specs.Lines.{up_to, late_of_method}
 
-module _ (f : ℕ → List ℕ) (n n' : ℕ) (next : n' ≡ n + 1) (text : List ℕ) (so_far : text ≡ up_to n f) where
+-- the text holds f 0 to f (n - 1) behind what it held at first
+module _ (f : ℕ → List ℕ) (n n' : ℕ) (next : n' ≡ n + 1) (before : Content) {so_far : Content} (said : so_far ≡ with_words (up_to n f) before) where
   -- the next line
-  pub one_more : (text' line : List ℕ) → f n ≡ line → text' ≡ text ++ line → text' ≡ up_to n' f
-  one_more text' line e p =
-      p ∙ ap (λ z. z ++ line) so_far ∙ ap (λ z. up_to n f ++ z) (sym e) ∙ ap (λ k. up_to k f) (sym (next ∙ add-one n))
+  pub one_more : (line : List ℕ) {now : Content} → f n ≡ line → now ≡ with_words line so_far → now ≡ with_words (up_to n' f) before
+  one_more line e p =
+      then_said (up_to n f) line before said p ∙ ap (λ z. with_words (up_to n f ++ z) before) (sym e) ∙ ap (λ k. with_words (up_to k f) before) (sym (next ∙ add-one n))
 
   -- where nothing is said of the next
-  pub none_more : f n ≡ [] → text ≡ up_to n' f
-  none_more e = one_more text [] e (sym (append-nil text))
+  pub none_more : f n ≡ [] → so_far ≡ with_words (up_to n' f) before
+  none_more e =
+      said ∙ ap (λ z. with_words z before) (sym (append-nil (up_to n f))) ∙ ap (λ z. with_words (up_to n f ++ z) before) (sym e)
+      ∙ ap (λ k. with_words (up_to k f) before) (sym (next ∙ add-one n))
 
 -- an iterator over a list that has given n of its items gives one more, and has the rest left
 pub record Taken {A : Type 0} (xs : List A) (n n' : ℕ) (y : A) (rest : List A) : Type 0 where

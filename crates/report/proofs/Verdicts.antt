@@ -87,7 +87,7 @@ module _ {I : Type 0} (t : Ghosts I) (seat : SeatRule) (os : List (Operation I))
   abbrev blank : Buffers
   blank = record { ranks = map (λ _. 0) os; instants = map (λ _. 0) os; latenesses = map (λ _. 0) os }
 
-  granted_as : (a : Result Certificate Refusal) (w : Buffers) → (answering os k p a w).granted ≡ is_ok a
+  pub granted_as : (a : Result Certificate Refusal) (w : Buffers) → (answering os k p a w).granted ≡ is_ok a
   granted_as (Ok c) w = refl
   granted_as (Err r) w = refl
 

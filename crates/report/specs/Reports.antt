@@ -1,5 +1,5 @@
 -- What is printed of a trace.
-use Rattle.std.specs.Prelude.{ℕ, Bool, true, false, List, [], ◌++◌, length, Some, None, Ok, Err, string_bytes, codes, Option, Result}
+use Rattle.std.specs.Prelude.{ℕ, Bool, true, false, List, [], ◌++◌, length, Some, None, Ok, Err, codes, Option, Result}
 use Rattle.giving.specs.Lists.{SeatRule}
 use Rattle.refusal.specs.declared.Refusal.{Refusal}
 use Rattle.refusal.specs.Wording.{refusal_line}
@@ -20,21 +20,16 @@ use Rattle.calls.specs.Rules.{Buffers, run_of, missing, figures_of, certificate_
 use Rattle.docket.specs.Pairs.{paired_all}
 use Rattle.examination.specs.Kinds.{seat_of}
 use Rattle.examination.specs.Traces.{by_type}
-use Rattle.report.specs.declared.verdict.Report.{Report}
 use Rattle.report.specs.Lines.{lines_of_steps, lines_of_lates, line_of_certified}
 
 -- the line of a refusal, with its line feed
 abbrev pub refused_text : Refusal → List ℕ
 refused_text r = refusal_line r ++ codes "\n"
 
--- what a report says: its text, and whether it grants a certificate
+-- what is said of a trace: a text, and whether a certificate is granted
 pub record Verdict : Type 0 where
   pub text : List ℕ
   pub granted : Bool
-
--- what the report that a program has says
-abbrev pub verdict_in : Report → Verdict
-verdict_in p = record { text = string_bytes p.text; granted = p.granted }
 
 -- a refusal's line, which grants nothing
 abbrev pub refusing : Refusal → Verdict

@@ -1,124 +1,90 @@
 // What is said of an order: a certificate, or the first rule that is broken.
-ghost use Rattle.std.specs.Prelude.{◌≡◌, ◌≤◌, true, length, IfOk, Result};
+ghost use Rattle.std.specs.Prelude.{◌≡◌, ◌≤◌, true, length, Result};
 ghost use Rattle.sheet.specs.Sheets.{entered};
 ghost use Rattle.order.specs.Orders.{TrueOrder};
 ghost use Rattle.frame.specs.Kinds.{kind_number};
 ghost use Rattle.docket.specs.Buffers.{held};
 ghost use Rattle.docket.specs.Pairs.{paired_all};
 ghost use Rattle.examination.specs.Kinds.{seat_of};
-ghost use Rattle.report.specs.Reports.{verdict_in, verdict_of_order, refusing, granting, answering};
+ghost use Rattle.text.specs.Contents.{content, with_words};
+ghost use Rattle.report.specs.Reports.{verdict_of_order, granting, answering};
 
 use crate::line::CertifiedLine;
-use crate::lines::{late_lines, step_lines};
+use crate::lines::{say_lates, say_steps};
+use crate::refused::say_refused;
 use calls::certificate::Certificate;
-use counting::queue::CountingQueue;
-use docket::buffers::{Buffers, OwnBuffers};
-use examination::certifying::certify_order;
+use docket::buffers::Buffers;
+use examination::kind::certify_of_kind;
 use examination::proposal::Proposal;
 use frame::kind::Kind;
-use holder::holder::Holder;
-use holder::queue::Queue;
-use holder::stack::Stack;
 use item::item::Item;
 use refusal::Refusal;
 use sheet::sheet::Sheet;
-use std::alloc::{AllocError, Global};
+use text::text::Text;
 
-// What is printed of a trace, and whether a certificate is granted.
-// Kept (no plainer): the text is printed either way, so it is no value that is there only where the flag is set.
-#[derive(Drop)]
-pub struct Report {
-    pub text: String,
-    pub granted: bool,
-}
-
-// The one line of a refusal.
-pub fn refused(heap: Global, refusal: Refusal) -> Result<Report, AllocError>
-    ensures { IfOk result (λ p. verdict_in p ≡ refusing refusal) }
-{
-    let text = format!(in heap; "{refusal}\n")?;
-    Ok(Report {
-        text,
-        granted: false,
-    })
-}
-
-// What is printed of a granted certificate, from the buffers that it wrote.
-// Kept (no plainer): three lengths are asked for here and in `answered` alone; `step_lines` and `late_lines` ask each for its own.
-fn granted<I: Item>(
-    heap: Global,
+// Says a granted certificate, from the buffers that it wrote.
+// Kept (no plainer): three lengths are asked for here and in `say_answer` alone; `say_steps` and `say_lates` ask each for its own.
+fn say_certificate<I: Item>(
     sheet: &Sheet<I>,
     proposal: &Proposal,
     certificate: Certificate,
     buffers: &Buffers,
-) -> Result<Report, AllocError>
+    text: &mut Text,
+)
     requires ranks { length proposal.now.order.now ≤ length buffers.now.ranks.now }
     requires instants { length proposal.now.order.now ≤ length buffers.now.instants.now }
     requires latenesses { length (entered sheet.now) ≤ length buffers.now.latenesses.now }
-    ensures { IfOk result (λ p. verdict_in p ≡ granting (entered sheet.now) proposal.now.k proposal.now.order.now certificate (held buffers.now)) }
+    ensures { content text.new ≡ with_words (granting (entered sheet.now) proposal.now.k proposal.now.order.now certificate (held buffers.now)).text (content text.old) }
 {
-    let steps = step_lines(heap, proposal.order, buffers.ranks, buffers.instants)?;
-    let lates = late_lines(heap, sheet, buffers.latenesses)?;
+    say_steps(proposal.order, buffers.ranks, buffers.instants, text);
+    say_lates(sheet, buffers.latenesses, text);
     let last = CertifiedLine {
         k: proposal.k,
         certificate,
     };
-    let text = format!(in heap; "{steps}{lates}{last}")?;
-    Ok(Report {
-        text,
-        granted: true,
-    })
+    last.say(text);
 }
 
-// What is printed of the answer to a proposal, from the buffers as it left them.
-fn answered<I: Item>(
-    heap: Global,
+// Says the answer to a proposal, from the buffers as it left them.
+fn say_answer<I: Item>(
     sheet: &Sheet<I>,
     proposal: &Proposal,
     answer: Result<Certificate, Refusal>,
     buffers: &Buffers,
-) -> Result<Report, AllocError>
+    text: &mut Text,
+)
     requires ranks { length proposal.now.order.now ≤ length buffers.now.ranks.now }
     requires instants { length proposal.now.order.now ≤ length buffers.now.instants.now }
     requires latenesses { length (entered sheet.now) ≤ length buffers.now.latenesses.now }
-    ensures { IfOk result (λ p. verdict_in p ≡ answering (entered sheet.now) proposal.now.k proposal.now.order.now answer (held buffers.now)) }
+    ensures { content text.new ≡ with_words (answering (entered sheet.now) proposal.now.k proposal.now.order.now answer (held buffers.now)).text (content text.old) }
 {
     match answer {
-        Ok(certificate) => granted(heap, sheet, proposal, certificate, buffers),
-        Err(refusal) => refused(heap, refusal),
+        Ok(certificate) => say_certificate(sheet, proposal, certificate, buffers, text),
+        Err(refusal) => say_refused(refusal, text),
     }
 }
 
-// What is said of an order: a certificate exactly when it is a true order, and else the first rule that it breaks.
-pub fn verdict<I: Item, H: Holder + Drop>(
-    heap: Global,
-    sheet: &Sheet<I>,
-    holder: H,
-    proposal: &Proposal,
-) -> Result<Report, AllocError>
-    ensures said { IfOk result (λ p. verdict_in p ≡ verdict_of_order I.Item H.Holder.seat (entered sheet.now) proposal.now.k proposal.now.order.now) }
-    ensures granted_exactly_when_true_order { IfOk result (λ p. (p.granted ≡ true → TrueOrder H.Holder.seat (paired_all I.Item.number (entered sheet.now)) proposal.now.k proposal.now.order.now) × (TrueOrder H.Holder.seat (paired_all I.Item.number (entered sheet.now)) proposal.now.k proposal.now.order.now → p.granted ≡ true)) }
-{
-    let room = proposal.order.len().max(sheet.count());
-    let mut own = OwnBuffers::new(heap, room)?;
-    let mut buffers = own.lend();
-    let answer = certify_order(sheet, holder, proposal, &mut buffers);
-    answered(heap, sheet, proposal, answer, &buffers)
-}
-
-// The same by the strict object of that kind.
-// Kept (no plainer): the kind is known at run time only; by a closure over `certify_of_kind` the contract is longer than this match.
-pub(crate) fn verdict_by_kind<I: Item>(
-    heap: Global,
+// Says of an order by the strict object of that kind, and answers whether a certificate is granted: exactly when it is a true
+// order; and else the first rule that it breaks is said.
+pub(crate) fn say_verdict<I: Item>(
     sheet: &Sheet<I>,
     kind: Kind,
     proposal: &Proposal,
-) -> Result<Report, AllocError>
-    ensures { IfOk result (λ p. verdict_in p ≡ verdict_of_order I.Item (seat_of (kind_number kind)) (entered sheet.now) proposal.now.k proposal.now.order.now) }
+    text: &mut Text,
+) -> bool
+    requires few { length proposal.now.order.now ≤ 1024 }
+    ensures granted { result ≡ (verdict_of_order I.Item (seat_of (kind_number kind)) (entered sheet.now) proposal.now.k proposal.now.order.now).granted }
+    ensures said { content text.new ≡ with_words (verdict_of_order I.Item (seat_of (kind_number kind)) (entered sheet.now) proposal.now.k proposal.now.order.now).text (content text.old) }
 {
-    match kind {
-        Kind::Queue => verdict(heap, sheet, Queue::new(), proposal),
-        Kind::Stack => verdict(heap, sheet, Stack::new(), proposal),
-        Kind::CountingQueue => verdict(heap, sheet, CountingQueue::new(), proposal),
-    }
+    let mut ranks = [0u16; 1024];
+    let mut instants = [0u64; 1024];
+    let mut latenesses = [0u16; 1024];
+    let mut buffers = Buffers {
+        ranks: &mut ranks,
+        instants: &mut instants,
+        latenesses: &mut latenesses,
+    };
+    let answer = certify_of_kind(sheet, kind, proposal, &mut buffers);
+    say_answer(sheet, proposal, answer, &buffers, text);
+    answer.is_ok()
 }

@@ -3,3 +3,4 @@ mod RecordsTaken
 pub mod Readings
 mod Writes
 pub mod Copies
+pub mod Outcomes

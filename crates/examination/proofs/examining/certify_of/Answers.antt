@@ -1,10 +1,11 @@
 use Rattle.std.proofs.Common.{◌≡◌, min, length, Err, refl, sym, ap, ◌∙◌, arith, rules}
 use Rattle.std.proofs.lemmas.Result.{err_from_is_err_and}
 use Rattle.sheet.specs.Sheets.{entered, room}
+use Rattle.trace.specs.Faults.{read_refusal}
 use Rattle.trace.specs.Reading.{reading}
 use Rattle.docket.specs.Buffers.{held}
 use Rattle.examination.specs.Traces.{Examined, examining}
-use Rattle.examination.proofs.Traces.{accepted_examined, refused_examined}
+use Rattle.trace.proofs.Outcomes.{accepted_as_answered, refused_as_answered}
 use Rattle.examination.proofs.examining.certify_of.Goals as goal
 
 pub certify_accepted-requires : goal.certify_accepted-requires
@@ -19,7 +20,7 @@ returns g c =
     let o = reading t (room c.new-sheet.result) c.args.bytes.now in
     let full : room c.new-sheet.result ≡ min (length c.args.records.now) 1024 = search rules in
     let read = c.in_ok-accepted.ensures in
-    let same = accepted_examined t b o (entered c.new-sheet.result) (entered c.read.new.sheet) c.in_ok-accepted.accepted read.answer read.entered
+    let same = ap (examining t b) (accepted_as_answered o (entered c.new-sheet.result) (entered c.read.new.sheet) c.in_ok-accepted.accepted read.answer read.entered)
     ∙ ap (λ n. examining t b (reading t n c.args.bytes.now)) full in
     let e = c.certify_accepted.ensures in
     record { answer = e.answer ∙ ap (λ (x : Examined). x.answer) same; written = e.written ∙ ap (λ (x : Examined). x.buffers) same; lenders = e.lenders }
@@ -32,9 +33,10 @@ returns-in_err-accepted g c =
     let full : room c.new-sheet.result ≡ min (length c.args.records.now) 1024 = search rules in
     let same = ap (λ n. examining t b (reading t n c.args.bytes.now)) full in
     let p = err_from_is_err_and c.from_residual.result c.from_residual.ensures.1 in
-    let r = refused_examined t b o c.in_err-accepted.field-0.0 c.in_err-accepted.ensures.answer in
+    let r : examining t b o ≡ record { answer = Err (read_refusal c.in_err-accepted.field-0.0); buffers = b } =
+    refused_as_answered (examining t b) (λ f. record { answer = Err (read_refusal f); buffers = b }) (λ f. refl) (λ os i f. refl) o c.in_err-accepted.field-0.0 c.in_err-accepted.ensures.answer in
     record {
-      answer = p.1 ∙ ap Err p.2 ∙ sym r.0 ∙ ap (λ (x : Examined). x.answer) same;
-      written = r.1 ∙ ap (λ (x : Examined). x.buffers) same;
+      answer = p.1 ∙ ap Err p.2 ∙ sym (ap (λ (x : Examined). x.answer) r) ∙ ap (λ (x : Examined). x.answer) same;
+      written = sym (ap (λ (x : Examined). x.buffers) r) ∙ ap (λ (x : Examined). x.buffers) same;
       lenders = (refl, refl, refl);
     }

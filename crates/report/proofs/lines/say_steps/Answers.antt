@@ -1,8 +1,22 @@
-use Rattle.std.proofs.Common.{◌≡◌, ◌++◌, ◌≤◌, length, string_bytes, refl, ap, ◌∙◌, ⊎_elim, arith}
+use Rattle.std.proofs.Common.{◌≡◌, ◌≤◌, length, sym, refl, ap, ◌∙◌, ⊎_elim, arith, rules}
 use Rattle.std.specs.Iterator.Adapters.{enumerate_count}
+use Rattle.text.specs.Contents.{content, with_words}
+use Rattle.text.proofs.Contents.{nothing_said}
 use Rattle.report.specs.Lines.{up_to, line_of_step, step_at}
 use Rattle.report.proofs.Listings.{one_more, taken, at_end}
-use Rattle.report.proofs.lines.step_lines.Goals as goal
+use Rattle.report.proofs.lines.say_steps.Goals as goal
+
+pub loop-step-init : goal.loop-step-init
+loop-step-init c =
+    let none : enumerate_count c.into_iter-step-iterator.result ≡ 0 = search rules in
+    let was = content c.args.text.now in
+    record {
+      order = search rules;
+      ranks = search rules;
+      instants = search rules;
+      within = omega (arith, none);
+      said = sym (nothing_said was) ∙ ap (λ n. with_words (up_to n (step_at c.args.order.now c.args.ranks.now c.args.instants.now)) was) (sym none);
+    }
 
 pub loop-step-preserved : goal.loop-step-preserved
 loop-step-preserved c =
@@ -17,9 +31,9 @@ loop-step-preserved c =
       ranks = r.left;
       instants = t.left;
       within = omega (arith, p.below, s.2);
-      said = one_more (step_at c.args.order.now c.args.ranks.now c.args.instants.now) n _ s.2 (string_bytes c.loop-step.text) i.said (string_bytes c.write.new.self)
+      said = one_more (step_at c.args.order.now c.args.ranks.now c.args.instants.now) n _ s.2 (content c.args.text.now) i.said
           (line_of_step n c.in-Some.operation.now c.in-Some.rank.now c.in-Some.at.now) (rw (p.at 0, r.at 0, t.at 0) refl)
-          (c.in_ok-write.ensures.bytes ∙ ap (λ m. string_bytes c.loop-step.text ++ line_of_step m c.in-Some.operation.now c.in-Some.rank.now c.in-Some.at.now) s.1);
+          (c.say.ensures ∙ ap (λ m. with_words (line_of_step m c.in-Some.operation.now c.in-Some.rank.now c.in-Some.at.now) (content c.loop-step.text)) s.1);
     }
 
 pub returns : goal.returns
@@ -32,4 +46,4 @@ returns c =
     (λ x. let z = at_end c.args.instants.now _ n i.instants x.1.0 in omega (arith, c.requires.instants))
     c.in-None.ensures.steps.0 in
     let end : enumerate_count c.loop-step.step-iterator ≡ length c.args.order.now = omega (arith, i.within) in
-    i.said ∙ ap (λ m. up_to m (step_at c.args.order.now c.args.ranks.now c.args.instants.now)) end
+    i.said ∙ ap (λ m. with_words (up_to m (step_at c.args.order.now c.args.ranks.now c.args.instants.now)) (content c.args.text.now)) end

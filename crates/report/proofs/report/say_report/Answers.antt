@@ -1,0 +1,40 @@
+use Rattle.std.proofs.Common.{◌≡◌, min, length, refl, sym, ap, ◌∙◌, arith, rules}
+use Rattle.sheet.specs.Sheets.{entered, room}
+use Rattle.trace.specs.Faults.{read_refusal}
+use Rattle.trace.specs.Reading.{reading}
+use Rattle.trace.proofs.Outcomes.{accepted_as_answered, refused_as_answered}
+use Rattle.text.specs.Contents.{content, with_words}
+use Rattle.report.specs.Reports.{Verdict, refusing, saying}
+use Rattle.report.proofs.report.say_report.Goals as goal
+
+pub say_accepted-requires : goal.say_accepted-requires
+say_accepted-requires g c =
+    let sound = c.in-Ok.ensures.accepted_is_sound in
+    record { few = omega (arith, sound.ordered, sound.count) }
+
+pub returns-in-Ok : goal.returns-in-Ok
+returns-in-Ok g c =
+    let t = g.I.Item in
+    let full : room c.new-sheet.result ≡ min (length c.args.records.now) 1024 = search rules in
+    let e = c.in-Ok.ensures in
+    let o = reading t (room c.new-sheet.result) c.args.bytes.now in
+    let same = ap (saying t) (accepted_as_answered o (entered c.new-sheet.result) (entered c.read.new.sheet) c.in-Ok.accepted e.answer e.entered ∙ ap (λ n. reading t n c.args.bytes.now) full) in
+    record {
+      granted = c.say_accepted.ensures.granted ∙ ap (λ (v : Verdict). v.granted) same;
+      said = c.say_accepted.ensures.said ∙ ap (λ (v : Verdict). with_words v.text (content c.args.text.now)) same;
+    }
+
+pub returns-in-Err : goal.returns-in-Err
+returns-in-Err g c =
+    let t = g.I.Item in
+    let full : room c.new-sheet.result ≡ min (length c.args.records.now) 1024 = search rules in
+    let o = reading t (room c.new-sheet.result) c.args.bytes.now in
+    let f = c.in-Err.fault in
+    let same : refusing (read_refusal c.in-Err.fault) ≡ saying t (reading t (min (length c.args.records.now) 1024) c.args.bytes.now) =
+    sym (refused_as_answered (saying t) (λ x. refusing (read_refusal x)) (λ x. refl) (λ os i x. refl) o f c.in-Err.ensures.answer) ∙ ap (λ n. saying t (reading t n c.args.bytes.now)) full in
+    record {
+      granted = ap (λ (v : Verdict). v.granted) same;
+      said =
+          c.say_refused.ensures ∙ ap (λ r. with_words (refusing r).text (content c.args.text.now)) c.from.ensures
+          ∙ ap (λ (v : Verdict). with_words v.text (content c.args.text.now)) same;
+    }
