@@ -2,4 +2,3 @@ mod Entries
 mod RecordsTaken
 pub mod Readings
 mod Writes
-pub mod Copies
