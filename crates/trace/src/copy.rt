@@ -28,7 +28,7 @@ pub fn copy<'a, I: Item>(
     ensures accepted_is_sound { IfOk result (λ a. Sound I.Item (room sheet.old) (contents_of a (entered sheet.new))) }
 {
     let accepted = read(bytes, sheet)?;
-    let numbers: [u16; 1024] = accepted.order.numbers();
+    let numbers = accepted.order.numbers::<1024>();
     let order = &numbers[..accepted.order.len()];
     write_of_kind(sheet, accepted.kind, accepted.k, order, out)?;
     Ok(accepted)
