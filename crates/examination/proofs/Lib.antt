@@ -1,5 +1,4 @@
 pub mod Runs
 pub mod Grants
-pub mod Numbers
 pub mod Traces
 pub mod TrueTraces
