@@ -1,4 +1,3 @@
 pub mod Runs
 pub mod Grants
-pub mod Numbers
 pub mod TrueTraces

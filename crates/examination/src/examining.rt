@@ -21,7 +21,6 @@ use item::ticket::Ticket;
 use refusal::Refusal;
 use sheet::operation::{Method, Operation};
 use sheet::sheet::Sheet;
-use std::array;
 use trace::read::{Accepted, read};
 
 // What a record of a sheet's memory holds before an operation is entered.
@@ -54,7 +53,7 @@ fn certify_accepted<I: Item>(
     ensures written { held buffers.new ≡ order_written (seat_of (kind_number accepted.now.kind)) (sheet_ops I.Item.number sheet.now) accepted.now.k (order_of accepted.now.order) (held buffers.old) }
     ensures lenders { SameSlices buffers.old buffers.new }
 {
-    let numbers: [u16; 1024] = array::from_fn(|i| accepted.order.at(i).unwrap_or(0));
+    let numbers = accepted.order.numbers::<1024>();
     let proposal = Proposal {
         k: accepted.k,
         order: &numbers[..accepted.order.len()],

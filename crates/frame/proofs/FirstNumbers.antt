@@ -24,8 +24,8 @@ module _ {F : Type 0} {g : Mut F (ℕ × Unit {0}) ℕ} {f : F} (xs ys : List �
   pub first_made : {n : ℕ} → IsFromFnResult g f ys n → ys ≡ first_numbers n xs
   first_made {n} r = fill_by_all (λ i. get_or xs i 0) ys n 0 r.long (λ x h. made_from n 0 r.each x (omega arith) (omega arith))
 
--- they begin with all the numbers, where these are no more
-pub take_first : (n : ℕ) (xs : List ℕ) → length xs ≤ n → take (length xs) (first_numbers n xs) ≡ xs
-take_first n xs h =
+-- their front is all the numbers, where these are no more
+pub front_of_first : (n : ℕ) (xs : List ℕ) {count : ℕ} {ys : List ℕ} → count ≡ length xs → ys ≡ first_numbers n xs → length xs ≤ n → take count ys ≡ xs
+front_of_first n xs {count} {ys} all first few =
     let at : ℕ → ℕ = λ i. get_or xs i 0 in
-    take-map-range_with_len at 0 n (length xs) h ∙ sym (fill_by_all at xs (length xs) 0 refl (λ i l. refl))
+    ap (λ k. take k ys) all ∙ ap (take (length xs)) first ∙ take-map-range_with_len at 0 n (length xs) few ∙ sym (fill_by_all at xs (length xs) 0 refl (λ i h. refl))

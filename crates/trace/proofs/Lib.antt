@@ -2,5 +2,4 @@ mod Entries
 mod RecordsTaken
 pub mod Readings
 mod Writes
-pub mod Copies
 pub mod Outcomes

@@ -50,7 +50,7 @@ abbrev pub said : Accepted → Said
 said a = record { kind = kind_number a.kind; k = a.k; order = order_of a.order }
 
 -- an answer as the values that it says
-abbrev pub shown : Result Accepted ReadFault → Result Said ReadFault
+abbrev pub shown : {E : Type 0} → Result Accepted E → Result Said E
 shown (Ok a) = Ok (said a)
 shown (Err e) = Err e
 

@@ -1,5 +1,5 @@
 -- What the faults of reading, writing and copying say.
-use Rattle.std.specs.Prelude.{ℕ, Some, None, Option}
+use Rattle.std.specs.Prelude.{ℕ}
 use Rattle.refusal.specs.declared.Refusal.{Refusal}
 use Rattle.sheet.specs.Faults.{sheet_refusal}
 use Rattle.record.specs.Faults.{record_refusal}
@@ -11,7 +11,7 @@ use Rattle.trace.specs.declared.fault.ReadFault.TheVariants.{Frame, Entry}
 use Rattle.trace.specs.declared.fault.WriteFault.{WriteFault}
 use Rattle.trace.specs.declared.fault.WriteFault.TheVariants as writing
 use Rattle.trace.specs.declared.fault.CopyFault.{CopyFault}
-use Rattle.trace.specs.declared.fault.CopyFault.TheVariants.{Reading, Writing, NoMemory}
+use Rattle.trace.specs.declared.fault.CopyFault.TheVariants.{Reading, Writing}
 
 -- of the record at that place
 abbrev pub entry_refusal : ℕ → EntryFault → Refusal
@@ -29,8 +29,7 @@ write_refusal writing.Kind = of_frame 3
 write_refusal writing.OrderLength = of_frame 52
 write_refusal writing.Memory = of_frame 51
 
--- of a copy: none where memory was wanting
-abbrev pub copy_refusal : CopyFault → Option Refusal
-copy_refusal (Reading fault) = Some (read_refusal fault)
-copy_refusal (Writing fault) = Some (write_refusal fault)
-copy_refusal NoMemory = None
+-- of a copy: that of reading, or that of writing
+abbrev pub copy_refusal : CopyFault → Refusal
+copy_refusal (Reading fault) = read_refusal fault
+copy_refusal (Writing fault) = write_refusal fault

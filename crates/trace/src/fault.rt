@@ -2,14 +2,13 @@
 ghost use Rattle.std.specs.Prelude.{◌≡◌};
 ghost use Rattle.trace.specs.declared.fault.EntryFault.TheVariants.{Record, Sheet};
 ghost use Rattle.trace.specs.declared.fault.ReadFault.TheVariants.{Frame, Entry};
-ghost use Rattle.trace.specs.declared.fault.CopyFault.TheVariants.{Reading, Writing, NoMemory};
+ghost use Rattle.trace.specs.declared.fault.CopyFault.TheVariants.{Reading, Writing};
 ghost use Rattle.trace.specs.Faults.{entry_refusal, read_refusal, write_refusal, copy_refusal};
 
 use frame::fault::FrameFault;
 use record::fault::RecordFault;
 use refusal::{Layer, Refusal};
 use sheet::fault::SheetFault;
-use std::alloc::AllocError;
 
 // Why a record's operation is not entered.
 #[derive(Clone, Copy, PartialEq, Eq, Debug)]
@@ -48,7 +47,6 @@ pub enum WriteFault {
 pub enum CopyFault {
     Reading(ReadFault),
     Writing(WriteFault),
-    NoMemory,
 }
 
 impl EntryFault {
@@ -101,16 +99,13 @@ impl From<WriteFault> for Refusal {
     }
 }
 
-impl CopyFault {
-    // The refusal, or none where memory was wanting.
-    // Kept (no plainer): want of memory has no refusal, so the answer is an Option, and a From of a fault for an Option says less than a name.
-    pub fn refusal(&self) -> Option<Refusal>
-        ensures { result ≡ copy_refusal self.now }
-    {
-        match *self {
-            CopyFault::Reading(fault) => Some(Refusal::from(fault)),
-            CopyFault::Writing(fault) => Some(Refusal::from(fault)),
-            CopyFault::NoMemory => None,
+impl From<CopyFault> for Refusal {
+    ghost from_gives = { λ fault r. r ≡ copy_refusal fault };
+
+    fn from(fault: CopyFault) -> Refusal {
+        match fault {
+            CopyFault::Reading(fault) => Refusal::from(fault),
+            CopyFault::Writing(fault) => Refusal::from(fault),
         }
     }
 }
@@ -160,13 +155,5 @@ impl From<WriteFault> for CopyFault {
 
     fn from(fault: WriteFault) -> CopyFault {
         CopyFault::Writing(fault)
-    }
-}
-
-impl From<AllocError> for CopyFault {
-    ghost from_gives = { λ _ r. r ≡ NoMemory };
-
-    fn from(_fault: AllocError) -> CopyFault {
-        CopyFault::NoMemory
     }
 }

@@ -13,6 +13,7 @@ mod tests {
     use sheet::operation::{Method, Operation};
     use sheet::sheet::Sheet;
     use std::test::Fail;
+    use trace::copy::copy;
     use trace::read::read;
     use trace::write::write;
 
@@ -68,6 +69,13 @@ mod tests {
     fn write_refusal(sheet: &Sheet<Ticket>, kind: u8, order: &[u16], out: &mut [u8]) -> Option<u8> {
         let fault = write(sheet, kind, 1, order, out).err()?;
         Some(Refusal::from(fault).number)
+    }
+
+    // The refusal of copying a trace of tickets, with memory for two operations.
+    fn copy_refusal(bytes: &[u8], out: &mut [u8]) -> Option<Refusal> {
+        let mut memory = [add(0); 2];
+        let mut sheet = Sheet::<Ticket>::new(&mut memory);
+        copy(bytes, &mut sheet, out).err().map(Refusal::from)
     }
 
     #[test]
@@ -163,6 +171,23 @@ mod tests {
         assert!(rt; write::<Ticket>(&sheet, 2, 1, &[0], &mut out).is_ok());
         assert_eq!(rt; out[35], 9);
         assert_eq!(rt; ticket_refusal(&out[0..34]), None);
+    }
+
+    #[test]
+    fn copying(rt: HostRuntime) {
+        let mut out = [9u8; 61];
+        assert_eq!(rt;
+            copy_refusal(&TWO, &mut out[0..59]),
+            refused(Layer::Frame, 51, 0)
+        );
+        assert_eq!(rt;
+            copy_refusal(&TWO[0..59], &mut out),
+            refused(Layer::Frame, 7, 0)
+        );
+        assert!(rt; out == [9u8; 61]);
+        assert_eq!(rt; copy_refusal(&TWO, &mut out), None);
+        assert!(rt; out.starts_with(&TWO));
+        assert_eq!(rt; out[60], 9);
     }
 
     #[test]
