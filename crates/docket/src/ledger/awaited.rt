@@ -1,11 +1,11 @@
 // The ends of the operations that are not placed, which are awaited, and the soonest of them.
-ghost use Rattle.std.specs.Prelude.{◌≡◌, ℕ, ◌+◌, ◌*◌, ◌<◌, ◌≤◌, min, length, slice_index, slice_set};
-ghost use Rattle.docket.specs.Kept.{entry_of, end_at, Lesser};
+ghost use Rattle.std.specs.Prelude.{◌≡◌, ℕ, ◌+◌, ◌*◌, ◌<◌, ◌≤◌, min, nat_lt, length, slice_index, slice_set};
+ghost use Rattle.docket.specs.Kept.{entry_of, end_at, end_if, Lesser};
 
 use crate::entry::Entry;
 
-// A tree of instants. At 1,024 plus an operation's number stands its end, or the last instant of all where it is awaited
-// no longer; at each lower place from 1 on, the lesser of the two that stand at twice the place and after it.
+// A tree of instants. At 1,024 plus the number of an operation stands its end while it is awaited, and at each other place
+// from 1,024 on the last instant of all; at each lower place from 1 on, the lesser of the two at twice the place and after it.
 // Kept (rule of the project): an array, which is memory of a fixed size.
 #[derive(Drop)]
 pub struct Awaited {
@@ -45,7 +45,7 @@ fn write_upward(least: &mut [u64; 2048], number: usize, end: u64)
 fn with_ends(table: &[Entry]) -> [u64; 2048]
     requires { length table.now ≤ 1024 }
     ensures long { length result ≡ 2048 }
-    ensures ends { (x : ℕ) → x < length table.now → end_at result x ≡ (entry_of table.now x).paired.end }
+    ensures ends { (x : ℕ) → x < 1024 → end_at result x ≡ end_if (nat_lt x (length table.now)) (entry_of table.now x) }
 {
     let mut least = [u64::MAX; 2048];
     for (number, entry) in table.iter().enumerate() {
@@ -55,10 +55,10 @@ fn with_ends(table: &[Entry]) -> [u64; 2048]
 }
 
 impl Awaited {
-    // The ends of the operations of the table.
+    // The ends of the operations of the table, and elsewhere the last instant of all.
     pub(crate) fn of(table: &[Entry]) -> Awaited
         requires { length table.now ≤ 1024 }
-        ensures { (x : ℕ) → x < length table.now → end_at result.least x ≡ (entry_of table.now x).paired.end }
+        ensures { (x : ℕ) → x < 1024 → end_at result.least x ≡ end_if (nat_lt x (length table.now)) (entry_of table.now x) }
     {
         let mut least = with_ends(table);
         for place in (1..1024).rev() {
