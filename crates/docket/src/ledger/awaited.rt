@@ -1,5 +1,5 @@
 // The ends of the operations that are not placed, which are awaited, and the soonest of them.
-ghost use Rattle.std.specs.Prelude.{◌≡◌, ℕ, ◌+◌, ◌*◌, ◌<◌, ◌≤◌, min, nat_lt, length, slice_index, slice_set};
+ghost use Rattle.std.specs.Prelude.{◌≡◌, ℕ, ◌+◌, ◌-◌, ◌*◌, ◌^◌, ◌<◌, ◌≤◌, min, nat_lt, length, slice_index, slice_set};
 ghost use Rattle.docket.specs.Kept.{entry_of, end_at, end_if, Lesser};
 
 use crate::entry::Entry;
@@ -31,6 +31,7 @@ fn write_upward(least: &mut [u64; 2048], number: usize, end: u64)
     ensures long { length least.new ≡ 2048 }
     ensures lesser { Lesser least.new }
     ensures ends { (x : ℕ) → end_at least.new x ≡ end_at (slice_set least.old (1024 + number) end) x }
+    ensures unused { slice_index least.new 0 ≡ slice_index least.old 0 }
 {
     let mut place = 1024 + number;
     least[place] = end;
@@ -46,6 +47,7 @@ fn with_ends(table: &[Entry]) -> [u64; 2048]
     requires { length table.now ≤ 1024 }
     ensures long { length result ≡ 2048 }
     ensures ends { (x : ℕ) → x < 1024 → end_at result x ≡ end_if (nat_lt x (length table.now)) (entry_of table.now x) }
+    ensures below { (p : ℕ) → p < 1024 → slice_index result p ≡ 2 ^ 64 - 1 }
 {
     let mut least = [u64::MAX; 2048];
     for (number, entry) in table.iter().enumerate() {
@@ -58,7 +60,8 @@ impl Awaited {
     // The ends of the operations of the table, and elsewhere the last instant of all.
     pub(crate) fn of(table: &[Entry]) -> Awaited
         requires { length table.now ≤ 1024 }
-        ensures { (x : ℕ) → x < 1024 → end_at result.least x ≡ end_if (nat_lt x (length table.now)) (entry_of table.now x) }
+        ensures ends { (x : ℕ) → x < 1024 → end_at result.least x ≡ end_if (nat_lt x (length table.now)) (entry_of table.now x) }
+        ensures unused { slice_index result.least 0 ≡ 2 ^ 64 - 1 }
     {
         let mut least = with_ends(table);
         for place in (1..1024).rev() {
@@ -72,6 +75,7 @@ impl Awaited {
         requires { number < 1024 }
         ensures own { end_at self.new.least number ≡ end }
         ensures others { (x : ℕ) → (x ≡ number → ⊥) → end_at self.new.least x ≡ end_at self.old.least x }
+        ensures unused { slice_index self.new.least 0 ≡ slice_index self.old.least 0 }
     {
         write_upward(&mut self.least, number as usize, end);
     }

@@ -6,7 +6,11 @@ use Rattle.docket.specs.Kept.{entry_of}
 use Rattle.docket.proofs.ledger.awaited.with_ends.Goals as goal
 
 pub loop-number-init : goal.loop-number-init
-loop-number-init c = (omega arith, λ x h. cond_above x 0 _ _ _ (omega arith) (get_or-replicate 2048 (1024 + x) _ 0 (omega arith)))
+loop-number-init c = (
+  omega arith,
+  λ x h. cond_above x 0 _ _ _ (omega arith) (get_or-replicate 2048 (1024 + x) _ 0 (omega arith)),
+  λ p h. get_or-replicate 2048 p _ 0 (omega arith),
+)
 
 pub loop-number-preserved : goal.loop-number-preserved
 loop-number-preserved c =
@@ -15,5 +19,6 @@ loop-number-preserved c =
     let v = (entry_of c.args.table.now c.loop-number.number).paired.end in
     let was = c.loop-number.invariant in (
       length-set ts at v ∙ was.0,
-      λ x h. grind (arith, nat_tests, get_or-set_same ts at v 0, get_or-set_other ts at (1024 + x) v 0, was),
+      λ x h. grind (arith, nat_tests, get_or-set_same ts at v 0, get_or-set_other ts at (1024 + x) v 0, was.0, was.1),
+      λ p h. get_or-set_other ts at p v 0 (λ z. omega arith) ∙ was.2 p h,
     )

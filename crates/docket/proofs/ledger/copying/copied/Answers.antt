@@ -27,4 +27,4 @@ invariant_of-result-clause-ends g c =
     let sheet = c.args.sheet.now in
     let made = c.from_fn-entries.ensures.items in
     let few : c.count-count.result ≤ 1024 = omega (arith, c.count-count.ensures, length-take-le sheet.count sheet.records.now sheet.within, sheet.bounded) in
-    awaits_all _ _ c.from_fn-entries.result (omega (arith, few, made.long)) (none_placed made (paired_all g.I.Item.number (entered sheet)) (λ x y q e. search rules)) c.of-awaited.ensures
+    awaits_all _ _ c.from_fn-entries.result (omega (arith, few, made.long)) (none_placed made (paired_all g.I.Item.number (entered sheet)) (λ x y q e. search rules)) c.of-awaited.ensures.ends
