@@ -1,11 +1,12 @@
 -- The ends of the operations that are not placed. Assumes nothing.
-use Rattle.std.proofs.Common.{◌≡◌, ℕ, zero, suc, ◌+◌, ◌*◌, ◌/◌, ◌<◌, ◌≤◌, min, Bool, true, false, not, ◌&&◌, ltb, List, length, get_or, set, Some, None, sym, refl, ap, ◌∙◌, ⊎_elim, arith}
-use Rattle.std.proofs.lemmas.List.{get_or-set_same, get_or-set_other}
-use Rattle.std.proofs.lemmas.Bool.{cases_eq, cases_Bool, le-ltb, cond-false}
+use Rattle.std.proofs.Common.{◌≡◌, ℕ, zero, suc, ◌+◌, ◌*◌, ◌/◌, ◌<◌, ◌≤◌, min, Bool, true, false, not, ◌&&◌, ltb, List, length, get_or, set, take, Some, None, sym, refl, ap, ◌∙◌, ⊎_elim, arith}
+use Rattle.std.proofs.lemmas.List.{get_or-take, get_or-set_same, get_or-set_other, length-take-le}
+use Rattle.std.proofs.lemmas.Bool.{cases_eq, cases_Bool, lt-ltb, le-ltb, cond-true, cond-false}
+use Rattle.std.proofs.lemmas.Bool.Decides.{nat_tests}
 use Rattle.calls.specs.Rules.{lowest}
 use Rattle.docket.specs.declared.entry.Entry.{Entry}
 use Rattle.docket.specs.declared.ledger.Ledger.{Ledger}
-use Rattle.docket.specs.Kept.{entry_of, end_at, Lesser, awaited_end, Awaits}
+use Rattle.docket.specs.Kept.{blank, entry_of, end_at, Lesser, end_if, awaited_end, Awaits}
 use Rattle.docket.specs.Moves.{waits, with_late, with_flag, changed_at, changed_all}
 use Rattle.docket.proofs.Table.{keeps_all, changed_here, changed_there}
 
@@ -67,23 +68,34 @@ none_ended l start late =
     ⊎_elim
     (λ (t : e.placed ≡ true). ap (λ (v : Bool). not v && ltb e.paired.end start) t)
     (λ (t : e.placed ≡ false).
-    let end : end_at l.awaited.least b ≡ e.paired.end = l.ends b (omega arith) ∙ cond-false e.placed _ _ t in
+    let on : (ltb b l.count && not e.placed) ≡ true = ap (λ (v : Bool). v && not e.placed) (lt-ltb b l.count (omega arith)) ∙ ap not t in
+    let end : end_at l.awaited.least b ≡ e.paired.end = l.ends b (omega arith) ∙ cond-true (ltb b l.count && not e.placed) _ _ on in
     let f : ltb e.paired.end start ≡ false = le-ltb _ _ (omega (arith, end, soonest_at l.awaited.least l.awaited.lesser b (omega arith))) in
     ap (λ (v : Bool). not v && ltb e.paired.end start) t ∙ f)
     (cases_Bool e.placed)))
 
 -- ---- how the ends are kept
+-- a table with no step
+pub awaits_all : (ts : List ℕ) (n : ℕ) (es : List Entry) → n ≤ length es → ((x : ℕ) → (entry_of es x).placed ≡ false)
+    → ((x : ℕ) → x < 1024 → end_at ts x ≡ end_if (ltb x (length (take n es))) (entry_of (take n es) x)) → Awaits ts n es
+awaits_all ts n es few none was = λ x h.
+    grind (arith, nat_tests, was x h, none x, length-take-le n es few, get_or-take n es x blank)
+
 -- a flag set at the operation x, and what then stands for it
-pub awaits_flag : (b : Bool) (ts us : List ℕ) (n x : ℕ) (es : List Entry) → x < length es
-    → end_at us x ≡ awaited_end (with_flag b (entry_of es x)) → ((y : ℕ) → (y ≡ x → ⊥) → end_at us y ≡ end_at ts y) → Awaits ts n es → Awaits us n (changed_at (with_flag b) es x)
-awaits_flag b ts us n x es long own others was = λ y h.
+pub awaits_flag : (b : Bool) (ts us : List ℕ) (n x : ℕ) (es : List Entry) → x < n → n ≤ length es
+    → end_at us x ≡ end_if (not b) (entry_of es x) → ((y : ℕ) → (y ≡ x → ⊥) → end_at us y ≡ end_at ts y) → Awaits ts n es → Awaits us n (changed_at (with_flag b) es x)
+awaits_flag b ts us n x es within long own others was = λ y h.
     ⊎_elim
     (λ (e : y ≡ x).
-    ap (end_at us) e ∙ own ∙ ap (λ (v : ℕ). awaited_end (with_flag b (entry_of es v))) (sym e) ∙ sym (changed_here awaited_end (with_flag b) es x y e (omega arith)))
-    (λ (e : y ≡ x → ⊥). others y e ∙ was y h ∙ sym (changed_there awaited_end (with_flag b) es x y e))
+    ap (end_at us) e ∙ own
+    ∙ ap (λ (v : Bool). end_if (v && not b) (entry_of es x)) (sym (lt-ltb x n within))
+    ∙ ap (λ (v : ℕ). awaited_end n v (with_flag b (entry_of es v))) (sym e)
+    ∙ sym (changed_here (awaited_end n y) (with_flag b) es x y e (omega arith)))
+    (λ (e : y ≡ x → ⊥). others y e ∙ was y h ∙ sym (changed_there (awaited_end n y) (with_flag b) es x y e))
     (cases_eq y x)
 
 -- changed latenesses leave them
 pub awaits_late : (f : ℕ → ℕ) (l : Ledger) (fs : List Entry) (cs : List ℕ) → fs ≡ changed_all (with_late f) l.entries cs → Awaits l.awaited.least l.count fs
 awaits_late f l fs cs is = λ x h.
-    l.ends x h ∙ sym (ap (λ (v : List Entry). awaited_end (entry_of v x)) is ∙ keeps_all awaited_end (with_late f) (λ v. refl) cs l.entries x)
+    l.ends x h
+    ∙ sym (ap (λ (v : List Entry). awaited_end l.count x (entry_of v x)) is ∙ keeps_all (awaited_end l.count x) (with_late f) (λ v. refl) cs l.entries x)

@@ -1,12 +1,14 @@
 -- A table that was filled entry by entry, before any step. Assumes nothing.
 use Rattle.std.proofs.Common.{◌≡◌, ℕ, ◌<◌, ◌≤◌, true, false, ltb, List, map, length, get_or, take, Some, sym, refl, ap, ◌∙◌, ⊎_elim, arith}
-use Rattle.std.proofs.lemmas.List.{get_or_past, get_or-map, length-map, ext_get_or}
+use Rattle.std.proofs.lemmas.List.{get_or_past, get_or-map, length-map, length-take-le, ext_get_or}
 use Rattle.std.proofs.lemmas.Bool.{cases_lt, ltb-true, ltb-false}
 use Rattle.std.proofs.lemmas.Option.{slice_get_read}
 use Rattle.std.specs.List.{slice_get}
 use Rattle.std.specs.Fn.{Mut, Called}
 use Rattle.std.specs.Array.{IsFromFnResult}
 use Rattle.sheet.specs.declared.operation.Operation.{Operation}
+use Rattle.sheet.specs.declared.sheet.Sheet.{Sheet}
+use Rattle.sheet.specs.Sheets.{entered}
 use Rattle.order.specs.declared.operation.Paired.{Paired}
 use Rattle.docket.specs.declared.entry.Entry.{Entry}
 use Rattle.order.specs.Steps.{no_operation}
@@ -36,27 +38,28 @@ module _ {I : Type 0} (number : I → ℕ) (all os : List (Operation I)) (k : �
       get_or_past (paired_all number os) k no_operation
       (omega (arith, ltb-false k (length all) (sym h), ap (length {A = Operation I}) same, length-map os (paired_of number os)))
 
+-- a sheet holds no more operations than a table
+pub few_paired : {I : Type 0} (number : I → ℕ) (s : Sheet I) → length (paired_all number (entered s)) ≤ 1024
+few_paired number s = omega (arith, length-map (entered s) (paired_of number (entered s)), length-take-le s.count s.records.now s.within, s.bounded)
+
 -- the entry of number x, where ps are the operations
 abbrev entry_before : List Paired → ℕ → Entry
 entry_before ps x = fresh (get_or ps x no_operation)
 
 -- n entries that calls made of the operations ps, and of no operation past them
-module _ {F : Type 0} {g : Mut F (ℕ × Unit {0}) Entry} {f : F} {es : List Entry} {n : ℕ} (filled : IsFromFnResult g f es n) (ps : List Paired) (call : (x : ℕ) (y : Entry) (q : F) → Called g f (x, tt) y q → (y ≡ entry_before ps x) × (q ≡ f)) where
-  at_any : {Y : Type 0} (part : Entry → Y) (y : Y) → ((p : Paired) → part (fresh p) ≡ y) → (x : ℕ) → part (entry_of es x) ≡ y
-  at_any part y all x =
+module _ {F : Type 0} {g : Mut F (ℕ × Unit {0}) Entry} {f : F} {es : List Entry} {n : ℕ} (filled : IsFromFnResult g f es n) (ps : List Paired) (call : (x : ℕ) (y : Entry) (q : F) → Called g f (x, tt) y q → (y ≡ entry_before ps x) × (q ≡ f)) (few : length ps ≤ n) where
+  pub entries_are : (x : ℕ) → entry_of es x ≡ entry_before ps x
+  entries_are x =
       ⊎_elim
-      (λ (h : x < n). ap part (made es (entry_before ps) call filled x blank h) ∙ all (get_or ps x no_operation))
-      (λ (h : n ≤ x). ap part (get_or_past es x blank (omega (arith, filled.long))) ∙ all no_operation)
+      (λ (h : x < n). made es (entry_before ps) call filled x blank h)
+      (λ (h : n ≤ x). get_or_past es x blank (omega (arith, filled.long)) ∙ ap fresh (sym (get_or_past ps x no_operation (omega (arith, few)))))
       (cases_lt x n)
 
-  pub none_late : (x : ℕ) → (entry_of es x).late ≡ 0
-  none_late = at_any {Y = ℕ} (λ (e : Entry). e.late) 0 (λ p. refl)
-
   pub none_placed : (x : ℕ) → (entry_of es x).placed ≡ false
-  none_placed = at_any (λ (e : Entry). e.placed) false (λ p. refl)
+  none_placed x = ap (λ (e : Entry). e.placed) (entries_are x)
 
-  pub table_is : (count : ℕ) → count ≡ length ps → count ≤ n → take count (map paired_in es) ≡ ps
-  table_is count all few =
+  pub table_is : (count : ℕ) → count ≡ length ps → take count (map paired_in es) ≡ ps
+  table_is count all =
       let long = length_ops es count (omega (arith, filled.long)) in
       ext_get_or no_operation (take count (map paired_in es)) ps (omega (arith, long, all))
       (λ i h.

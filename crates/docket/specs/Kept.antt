@@ -1,5 +1,5 @@
 -- What every ledger keeps. Assumes nothing.
-use Rattle.std.specs.Prelude.{◌≡◌, ℕ, ◌+◌, ◌-◌, ◌*◌, ◌^◌, ◌<◌, ◌≤◌, min, false, cond, not, List, map, length, take, slice_index, slice_index_or}
+use Rattle.std.specs.Prelude.{◌≡◌, ℕ, ◌+◌, ◌-◌, ◌*◌, ◌^◌, ◌<◌, ◌≤◌, min, Bool, false, cond, not, ◌&&◌, nat_lt, List, map, length, take, slice_index, slice_index_or}
 use Rattle.order.specs.declared.operation.Paired.{Paired}
 use Rattle.order.specs.Steps.{no_operation}
 use Rattle.calls.specs.Rules.{unplaced}
@@ -46,14 +46,18 @@ Flagged es n ss m = (x : ℕ) → x < n → (entry_of es x).placed ≡ not (unpl
 abbrev pub end_at : List ℕ → ℕ → ℕ
 end_at ts x = slice_index ts (1024 + x)
 
+-- the end of an operation that is awaited, and else the last instant of all
+abbrev pub end_if : Bool → Entry → ℕ
+end_if awaited e = cond awaited e.paired.end (2 ^ 64 - 1)
+
 -- at each place below 1,024 stands the lesser of the two at twice the place and after it: so the soonest of all stands at 1
 abbrev pub Lesser : List ℕ → Type 0
 Lesser ts = (p : ℕ) → 1 ≤ p → p < 1024 → slice_index ts p ≡ min (slice_index ts (2 * p)) (slice_index ts (2 * p + 1))
 
--- the end of an operation that is not placed, and else the last instant of all
-abbrev pub awaited_end : Entry → ℕ
-awaited_end e = cond e.placed (2 ^ 64 - 1) e.paired.end
+-- that of x, by its entry: of n operations those are awaited that are not placed
+abbrev pub awaited_end : ℕ → ℕ → Entry → ℕ
+awaited_end n x e = end_if (nat_lt x n && not e.placed) e
 
--- that stands for each of the n operations
+-- it stands for each number below 1,024
 abbrev pub Awaits : List ℕ → ℕ → List Entry → Type 0
-Awaits ts n es = (x : ℕ) → x < n → end_at ts x ≡ awaited_end (entry_of es x)
+Awaits ts n es = (x : ℕ) → x < 1024 → end_at ts x ≡ awaited_end n x (entry_of es x)

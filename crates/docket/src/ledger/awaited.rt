@@ -1,11 +1,11 @@
 // The ends of the operations that are not placed, which are awaited, and the soonest of them.
-ghost use Rattle.std.specs.Prelude.{◌≡◌, ℕ, ◌+◌, ◌*◌, ◌<◌, ◌≤◌, min, length, slice_index, slice_set};
-ghost use Rattle.docket.specs.Kept.{entry_of, end_at, Lesser};
+ghost use Rattle.std.specs.Prelude.{◌≡◌, ℕ, ◌+◌, ◌-◌, ◌*◌, ◌^◌, ◌<◌, ◌≤◌, min, nat_lt, length, slice_index, slice_set};
+ghost use Rattle.docket.specs.Kept.{entry_of, end_at, end_if, Lesser};
 
 use crate::entry::Entry;
 
-// A tree of instants. At 1,024 plus an operation's number stands its end, or the last instant of all where it is awaited
-// no longer; at each lower place from 1 on, the lesser of the two that stand at twice the place and after it.
+// A tree of instants. At 1,024 plus the number of an operation stands its end while it is awaited, and at each other place
+// from 1,024 on the last instant of all; at each lower place from 1 on, the lesser of the two at twice the place and after it.
 // Kept (rule of the project): an array, which is memory of a fixed size.
 #[derive(Drop)]
 pub struct Awaited {
@@ -31,6 +31,7 @@ fn write_upward(least: &mut [u64; 2048], number: usize, end: u64)
     ensures long { length least.new ≡ 2048 }
     ensures lesser { Lesser least.new }
     ensures ends { (x : ℕ) → end_at least.new x ≡ end_at (slice_set least.old (1024 + number) end) x }
+    ensures unused { slice_index least.new 0 ≡ slice_index least.old 0 }
 {
     let mut place = 1024 + number;
     least[place] = end;
@@ -45,7 +46,8 @@ fn write_upward(least: &mut [u64; 2048], number: usize, end: u64)
 fn with_ends(table: &[Entry]) -> [u64; 2048]
     requires { length table.now ≤ 1024 }
     ensures long { length result ≡ 2048 }
-    ensures ends { (x : ℕ) → x < length table.now → end_at result x ≡ (entry_of table.now x).paired.end }
+    ensures ends { (x : ℕ) → x < 1024 → end_at result x ≡ end_if (nat_lt x (length table.now)) (entry_of table.now x) }
+    ensures below { (p : ℕ) → p < 1024 → slice_index result p ≡ 2 ^ 64 - 1 }
 {
     let mut least = [u64::MAX; 2048];
     for (number, entry) in table.iter().enumerate() {
@@ -55,10 +57,11 @@ fn with_ends(table: &[Entry]) -> [u64; 2048]
 }
 
 impl Awaited {
-    // The ends of the operations of the table.
+    // The ends of the operations of the table, and elsewhere the last instant of all.
     pub(crate) fn of(table: &[Entry]) -> Awaited
         requires { length table.now ≤ 1024 }
-        ensures { (x : ℕ) → x < length table.now → end_at result.least x ≡ (entry_of table.now x).paired.end }
+        ensures ends { (x : ℕ) → x < 1024 → end_at result.least x ≡ end_if (nat_lt x (length table.now)) (entry_of table.now x) }
+        ensures unused { slice_index result.least 0 ≡ 2 ^ 64 - 1 }
     {
         let mut least = with_ends(table);
         for place in (1..1024).rev() {
@@ -72,6 +75,7 @@ impl Awaited {
         requires { number < 1024 }
         ensures own { end_at self.new.least number ≡ end }
         ensures others { (x : ℕ) → (x ≡ number → ⊥) → end_at self.new.least x ≡ end_at self.old.least x }
+        ensures unused { slice_index self.new.least 0 ≡ slice_index self.old.least 0 }
     {
         write_upward(&mut self.least, number as usize, end);
     }

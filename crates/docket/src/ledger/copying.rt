@@ -1,5 +1,5 @@
 // A ledger made from a sheet.
-ghost use Rattle.std.specs.Prelude.{◌≡◌, ℕ, Some, slice_index_or};
+ghost use Rattle.std.specs.Prelude.{◌≡◌, ℕ, Some, replicate, slice_index_or};
 ghost use Rattle.std.specs.List.{slice_get};
 ghost use Rattle.sheet.specs.Sheets.{entered};
 ghost use Rattle.docket.specs.Pairs.{paired_of, paired_all};
@@ -58,7 +58,8 @@ fn entry_at<I: Item>(sheet: &Sheet<I>, number: usize) -> Entry
 // A ledger of the operations of the sheet, with no step placed.
 pub(crate) fn copied<I: Item>(sheet: &Sheet<I>, k: u16) -> Ledger
     ensures table { ops_of result ≡ paired_all I.Item.number (entered sheet.now) }
-    ensures lates { (x : ℕ) → (entry_of result.entries x).late ≡ 0 }
+    ensures entries { (x : ℕ) → entry_of result.entries x ≡ fresh (slice_index_or (paired_all I.Item.number (entered sheet.now)) x no_operation) }
+    ensures steps { result.steps ≡ replicate 1024 (record { operation = 0; rank = 0 }) }
     ensures placed { result.placed ≡ 0 }
     ensures bound { result.k ≡ k }
 {

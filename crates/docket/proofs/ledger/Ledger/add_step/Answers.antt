@@ -26,7 +26,7 @@ invariant_of-self c =
       known = subst (λ (ss : List ℕ). StepsAreOperations l.count ss (l.placed + 1)) s (known_added (numbers_in l.steps) l.placed x h l.count l.known c.requires.within);
       once = subst (λ (ss : List ℕ). Once (take (l.placed + 1) ss)) s (once_added (numbers_in l.steps) l.placed x h l.once z);
       flagged = subst (λ (ss : List ℕ). Flagged (changed_at (with_flag true) l.entries x) l.count ss (l.placed + 1)) s (flagged_added (numbers_in l.steps) l.placed x h l.entries l.count (omega arith) l.flagged);
-      ends = awaits_flag true l.awaited.least _ l.count x l.entries (omega arith) c.set.ensures.own c.set.ensures.others l.ends;
+      ends = awaits_flag true l.awaited.least _ l.count x l.entries c.requires.within (omega arith) c.set.ensures.own c.set.ensures.others l.ends;
     }
 
 pub returns-clause-steps : goal.returns-clause-steps

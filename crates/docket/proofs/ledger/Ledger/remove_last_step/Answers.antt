@@ -27,7 +27,7 @@ invariant_of-self c =
       known = (λ i il. l.known i (omega arith));
       once = once_removed (numbers_in l.steps) l.placed _ c.requires (omega (arith, long_numbers l)) is l.once;
       flagged = flagged_removed (numbers_in l.steps) l.placed _ c.requires (omega (arith, long_numbers l)) is l.entries l.count (omega arith) l.once l.flagged;
-      ends = awaits_flag false l.awaited.least _ l.count _ l.entries (omega arith) c.set.ensures.own c.set.ensures.others l.ends;
+      ends = awaits_flag false l.awaited.least _ l.count _ l.entries xn (omega arith) c.set.ensures.own c.set.ensures.others l.ends;
     }
 
 pub returns-clause-entries : goal.returns-clause-entries

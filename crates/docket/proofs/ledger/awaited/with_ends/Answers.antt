@@ -1,21 +1,24 @@
-use Rattle.std.proofs.Common.{◌≡◌, ℕ, ◌+◌, set, sym, ap, ◌∙◌, ⊎_elim, arith, length-set}
-use Rattle.std.proofs.lemmas.Bool.{cases_eq}
-use Rattle.std.proofs.lemmas.List.{get_or-set_same, get_or-set_other}
-use Rattle.docket.specs.Kept.{entry_of, end_at}
+use Rattle.std.proofs.Common.{◌+◌, arith, ◌∙◌, length-set}
+use Rattle.std.proofs.lemmas.Bool.{cond_above}
+use Rattle.std.proofs.lemmas.Bool.Decides.{nat_tests}
+use Rattle.std.proofs.lemmas.List.{get_or-replicate, get_or-set_same, get_or-set_other}
+use Rattle.docket.specs.Kept.{entry_of}
 use Rattle.docket.proofs.ledger.awaited.with_ends.Goals as goal
+
+pub loop-number-init : goal.loop-number-init
+loop-number-init c = (
+  omega arith,
+  λ x h. cond_above x 0 _ _ _ (omega arith) (get_or-replicate 2048 (1024 + x) _ 0 (omega arith)),
+  λ p h. get_or-replicate 2048 p _ 0 (omega arith),
+)
 
 pub loop-number-preserved : goal.loop-number-preserved
 loop-number-preserved c =
     let ts = c.loop-number.least in
-    let es = c.args.table.now in
-    let n = c.loop-number.number in
-    let was = c.loop-number.invariant in
-    let v = (entry_of es n).paired.end in (
-      length-set ts (1024 + n) v ∙ was.0,
-      λ x h.
-          ⊎_elim
-          (λ (e : x ≡ n).
-          ap (end_at (set ts (1024 + n) v)) e ∙ get_or-set_same ts (1024 + n) v 0 (omega (arith, was.0)) ∙ ap (λ (k : ℕ). (entry_of es k).paired.end) (sym e))
-          (λ (e : x ≡ n → ⊥). get_or-set_other ts (1024 + n) (1024 + x) v 0 (λ z. e (omega arith)) ∙ was.1 x (omega (arith, e)))
-          (cases_eq x n),
+    let at = 1024 + c.loop-number.number in
+    let v = (entry_of c.args.table.now c.loop-number.number).paired.end in
+    let was = c.loop-number.invariant in (
+      length-set ts at v ∙ was.0,
+      λ x h. grind (arith, nat_tests, get_or-set_same ts at v 0, get_or-set_other ts at (1024 + x) v 0, was.0, was.1),
+      λ p h. get_or-set_other ts at p v 0 (λ z. omega arith) ∙ was.2 p h,
     )

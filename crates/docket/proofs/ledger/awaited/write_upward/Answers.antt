@@ -13,6 +13,7 @@ loop-place-init c =
       omega arith,
       λ q pos high above. put_there ts n c.args.end q (λ e. omega arith) above pos (c.requires.lesser q pos high),
       λ x. refl,
+      refl,
     )
 
 pub loop-place-preserved : goal.loop-place-preserved
@@ -31,9 +32,15 @@ loop-place-preserved c =
           (λ (e : q ≡ p → ⊥). put_there ts p v q e above pos (was.3 q pos high e))
           (cases_eq q p),
       λ x. get_or-set_other ts p (1024 + x) v 0 (λ e. omega arith) ∙ was.4 x,
+      get_or-set_other ts p 0 v 0 (λ e. omega arith) ∙ was.5,
     )
 
 pub returns : goal.returns
 returns c =
     let was = c.loop-place.invariant in
-    record { long = was.0; lesser = (λ q pos high. was.3 q pos high (λ e. omega arith)); ends = was.4 }
+    record {
+      long = was.0;
+      lesser = (λ q pos high. was.3 q pos high (λ e. omega arith));
+      ends = was.4;
+      unused = was.5 ∙ get_or-set_other c.args.least.now (1024 + c.args.number) 0 c.args.end 0 (λ e. omega arith);
+    }

@@ -1,11 +1,9 @@
-use Rattle.std.proofs.Common.{◌≡◌, ◌≤◌, rules, length, map, take, arith, refl, sym, ap, ◌∙◌}
-use Rattle.std.proofs.lemmas.List.{length-map, length-take-le, get_or-take}
-use Rattle.std.proofs.lemmas.Bool.{cond-false}
+use Rattle.std.proofs.Common.{rules, arith, refl, sym, ◌∙◌}
+use Rattle.std.proofs.lemmas.List.{length-map}
 use Rattle.sheet.specs.Sheets.{entered}
-use Rattle.docket.specs.declared.entry.Entry.{Entry}
-use Rattle.docket.specs.Kept.{blank, entry_of}
 use Rattle.docket.specs.Pairs.{paired_of, paired_all}
-use Rattle.docket.proofs.Entered.{none_late, none_placed, table_is}
+use Rattle.docket.proofs.Entered.{few_paired, entries_are, none_placed, table_is}
+use Rattle.docket.proofs.Awaiting.{awaits_all}
 use Rattle.docket.proofs.ledger.copying.copied.Goals as goal
 
 pub invariant_of-result-clause-lengths : goal.invariant_of-result-clause-lengths
@@ -13,24 +11,29 @@ invariant_of-result-clause-lengths g c = (c.from_fn-entries.ensures.items.long, 
 
 pub invariant_of-result-clause-flagged : goal.invariant_of-result-clause-flagged
 invariant_of-result-clause-flagged g c =
-    λ x h. none_placed c.from_fn-entries.ensures.items (paired_all g.I.Item.number (entered c.args.sheet.now)) (λ x y q e. search rules) x
+    let sheet = c.args.sheet.now in
+    let number = g.I.Item.number in
+    λ x h. none_placed c.from_fn-entries.ensures.items (paired_all number (entered sheet)) (λ x y q e. search rules) (few_paired number sheet) x
 
 pub returns-clause-table : goal.returns-clause-table
 returns-clause-table g c =
-    let os = entered c.args.sheet.now in
-    let pair = paired_of g.I.Item.number os in
-    table_is c.from_fn-entries.ensures.items (map pair os) (λ x y q e. search rules) c.count-count.result (c.count-count.ensures ∙ sym (length-map os pair)) (omega arith)
+    let sheet = c.args.sheet.now in
+    let number = g.I.Item.number in
+    let all = length-map (entered sheet) (paired_of number (entered sheet)) in
+    table_is c.from_fn-entries.ensures.items (paired_all number (entered sheet)) (λ x y q e. search rules) (few_paired number sheet) c.count-count.result (c.count-count.ensures ∙ sym all)
 
-pub returns-clause-lates : goal.returns-clause-lates
-returns-clause-lates g c = none_late c.from_fn-entries.ensures.items (paired_all g.I.Item.number (entered c.args.sheet.now)) (λ x y q e. search rules)
+pub returns-clause-entries : goal.returns-clause-entries
+returns-clause-entries g c =
+    let sheet = c.args.sheet.now in
+    let number = g.I.Item.number in
+    entries_are c.from_fn-entries.ensures.items (paired_all number (entered sheet)) (λ x y q e. search rules) (few_paired number sheet)
 
 pub invariant_of-result-clause-ends : goal.invariant_of-result-clause-ends
 invariant_of-result-clause-ends g c =
-    let es = c.from_fn-entries.result in
-    let n = c.count-count.result in
     let sheet = c.args.sheet.now in
-    let few : n ≤ 1024 = omega (arith, c.count-count.ensures, length-take-le sheet.count sheet.records.now sheet.within, sheet.bounded) in
-    let long : length (take n es) ≡ n = length-take-le n es (omega (arith, few, c.from_fn-entries.ensures.items.long)) in
-    λ x h.
-    let off = none_placed c.from_fn-entries.ensures.items (paired_all g.I.Item.number (entered sheet)) (λ x y q e. search rules) x in
-    c.of-awaited.ensures x (omega (arith, long, h)) ∙ ap (λ (e : Entry). e.paired.end) (get_or-take n es x blank h) ∙ sym (cond-false (entry_of es x).placed _ _ off)
+    let number = g.I.Item.number in
+    let made = c.from_fn-entries.ensures.items in
+    let few = few_paired number sheet in
+    let all = length-map (entered sheet) (paired_of number (entered sheet)) in
+    let none = none_placed made (paired_all number (entered sheet)) (λ x y q e. search rules) few in
+    awaits_all _ _ c.from_fn-entries.result (omega (arith, few, all, c.count-count.ensures, made.long)) none c.of-awaited.ensures.ends

@@ -17,6 +17,7 @@ loop-place-preserved c =
           (λ (e : q ≡ p → ⊥). put_there ts p v q e (λ z. omega (arith, e)) pos (was.1 q (omega (arith, e)) pos high))
           (cases_eq q p),
       λ x h. get_or-set_other ts p (1024 + x) v 0 (λ z. omega arith) ∙ was.2 x h,
+      get_or-set_other ts p 0 v 0 (λ z. omega arith) ∙ was.3,
     )
 
 pub invariant_of-result : goal.invariant_of-result

@@ -13,4 +13,5 @@ returns c =
     record {
       own = ends n ∙ get_or-set_same ts (1024 + n) c.args.end 0 (omega (arith, c.args.self.now.long, c.requires));
       others = (λ x e. ends x ∙ get_or-set_other ts (1024 + n) (1024 + x) c.args.end 0 (λ q. e (omega arith)));
+      unused = c.write_upward.ensures.unused;
     }
