@@ -1,8 +1,8 @@
-use Rattle.std.proofs.Common.{◌≡◌, length, take, ap, ◌∙◌}
+use Rattle.std.proofs.Common.{ap, ◌∙◌}
 use Rattle.sheet.specs.Sheets.{entered}
 use Rattle.frame.specs.Kinds.{kind_number}
 use Rattle.frame.specs.Orders.{order_of}
-use Rattle.frame.proofs.FirstNumbers.{take_first}
+use Rattle.frame.proofs.FirstNumbers.{front_of_first}
 use Rattle.examination.specs.Kinds.{seat_of}
 use Rattle.text.specs.Contents.{content, with_words}
 use Rattle.report.specs.Reports.{Verdict, verdict_of_order}
@@ -11,8 +11,7 @@ use Rattle.report.proofs.report.say_accepted.Goals as goal
 pub returns : goal.returns
 returns g c =
     let a = c.args.accepted.now in
-    let front : take c.len.result c.numbers-numbers.result ≡ order_of c.args.accepted.now.order =
-    ap (λ n. take n c.numbers-numbers.result) c.len.ensures ∙ ap (take (length (order_of a.order))) c.numbers-numbers.ensures ∙ take_first 1024 (order_of a.order) c.requires.few in
+    let front = front_of_first 1024 (order_of a.order) c.len.ensures c.numbers-numbers.ensures c.requires.few in
     let same = ap (verdict_of_order g.I.Item (seat_of (kind_number a.kind)) (entered c.args.sheet.now) a.k) front in
     record {
       granted = c.say_verdict.ensures.granted ∙ ap (λ (v : Verdict). v.granted) same;
