@@ -2,9 +2,10 @@
 #![tactic(auto)]
 
 use anyhow::{Context, anyhow};
-use report::report::report_trace;
+use report::report::{LONGEST as LONGEST_REPORT, report_trace};
 use std::io::{Read, Write};
 use std::process::ExitCode;
+use text::text::Text;
 
 // How many bytes the longest trace has: 8 + 26 * 1,024. One more shows that an input is longer.
 const LONGEST: u64 = 26_632;
@@ -15,14 +16,17 @@ fn examine(rt: &HostRuntime) -> anyhow::Result<bool> {
     rt.stdin().take(LONGEST + 1).read_to_end(&mut bytes).context(
         "standard input cannot be read: give the trace there, as in ./examine < FILE",
     )?;
-    let report = report_trace(rt.alloc(), bytes.as_slice()).map_err(|_| anyhow!(
-        "there is not enough memory to examine the trace"
+    let mut memory = [0u8; LONGEST_REPORT];
+    let mut text = Text::new(&mut memory);
+    let granted = report_trace(bytes.as_slice(), &mut text);
+    let report = text.whole().ok_or_else(|| anyhow!(
+        "the report has more bytes than any report can have: nothing is printed of it"
     ))?;
     let mut out = rt.stdout();
-    out.write_all(report.text.as_bytes())
+    out.write_all(report)
         .and_then(|_| out.flush())
         .context("standard output cannot be written: the report is not complete")?;
-    Ok(report.granted)
+    Ok(granted)
 }
 
 // The exit status says whether a certificate is granted; a refused trace has its line on standard output, and needs no more.

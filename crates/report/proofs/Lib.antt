@@ -1,3 +1,4 @@
 mod Listings
 mod Verdicts
 mod Traces
+mod Lengths

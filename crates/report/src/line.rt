@@ -1,5 +1,5 @@
 // The lines that are printed of an order that is certified.
-ghost use Rattle.std.specs.Prelude.{◌≡◌};
+ghost use Rattle.std.specs.Prelude.{◌≡◌, ◌≤◌, length};
 ghost use Rattle.text.specs.Contents.{content, with_words};
 ghost use Rattle.report.specs.Lines.{line_of_step, line_of_late, line_of_certified};
 
@@ -66,7 +66,8 @@ impl LateLine {
 
 impl CertifiedLine {
     pub(crate) fn say(&self, text: &mut Text)
-        ensures { content text.new ≡ with_words (line_of_certified self.now.k self.now.certificate) (content text.old) }
+        ensures said { content text.new ≡ with_words (line_of_certified self.now.k self.now.certificate) (content text.old) }
+        ensures short { length (line_of_certified self.now.k self.now.certificate) ≤ 111 }
     {
         text.say(&[
             Word("certified k "),

@@ -14,7 +14,8 @@ use text::text::Text;
 pub(crate) fn say_steps(order: &[u16], ranks: &[u16], instants: &[u64], text: &mut Text)
     requires ranks { length order.now ≤ length ranks.now }
     requires instants { length order.now ≤ length instants.now }
-    ensures { content text.new ≡ with_words (lines_of_steps order.now ranks.now instants.now) (content text.old) }
+    ensures said { content text.new ≡ with_words (lines_of_steps order.now ranks.now instants.now) (content text.old) }
+    ensures short { length order.now ≤ 1024 → length (lines_of_steps order.now ranks.now instants.now) ≤ 102400 }
 {
     for (step, ((operation, rank), at)) in order.iter().zip(ranks).zip(instants).enumerate() {
         let line = StepLine {
@@ -30,7 +31,8 @@ pub(crate) fn say_steps(order: &[u16], ranks: &[u16], instants: &[u64], text: &m
 // A line for each add of the sheet, in the order of their numbers.
 pub(crate) fn say_lates<I: Item>(sheet: &Sheet<I>, latenesses: &[u16], text: &mut Text)
     requires { length (entered sheet.now) ≤ length latenesses.now }
-    ensures { content text.new ≡ with_words (lines_of_lates (entered sheet.now) latenesses.now) (content text.old) }
+    ensures said { content text.new ≡ with_words (lines_of_lates (entered sheet.now) latenesses.now) (content text.old) }
+    ensures short { length (lines_of_lates (entered sheet.now) latenesses.now) ≤ 48128 }
 {
     for (number, (op, late)) in sheet.all().iter().zip(latenesses).enumerate() {
         if let Method::Add(_) = op.method {

@@ -1,5 +1,5 @@
 // What is said of a refusal.
-ghost use Rattle.std.specs.Prelude.{◌≡◌};
+ghost use Rattle.std.specs.Prelude.{◌≡◌, ◌≤◌, length};
 ghost use Rattle.refusal.specs.Wording.{refusal_line};
 ghost use Rattle.text.specs.Contents.{content, with_words};
 ghost use Rattle.report.specs.Reports.{refusing};
@@ -10,7 +10,8 @@ use text::text::Text;
 
 // Says a refusal: its layer, number, place and detail, without a line feed.
 pub fn say_refusal(refusal: Refusal, text: &mut Text)
-    ensures { content text.new ≡ with_words (refusal_line refusal) (content text.old) }
+    ensures said { content text.new ≡ with_words (refusal_line refusal) (content text.old) }
+    ensures short { length (refusal_line refusal) ≤ 90 }
 {
     text.say(&[
         Word("refused "),
@@ -26,7 +27,8 @@ pub fn say_refusal(refusal: Refusal, text: &mut Text)
 
 // Says the one line of a refusal.
 pub(crate) fn say_refused(refusal: Refusal, text: &mut Text)
-    ensures { content text.new ≡ with_words (refusing refusal).text (content text.old) }
+    ensures said { content text.new ≡ with_words (refusing refusal).text (content text.old) }
+    ensures short { length (refusing refusal).text ≤ 91 }
 {
     say_refusal(refusal, text);
     text.say(&[Word("\n")]);

@@ -22,11 +22,15 @@ use sheet::sheet::Sheet;
 use text::text::Text;
 use trace::read::{Accepted, read};
 
+// How many bytes a report has at most: 1,024 lines of a step, 100 bytes each, as many of an add, 47 each, and one of 111.
+pub const LONGEST: usize = 150_639;
+
 // Says of an accepted trace, whose operations are on the sheet, and answers whether a certificate is granted.
 fn say_accepted<I: Item>(sheet: &Sheet<I>, accepted: &Accepted, text: &mut Text) -> bool
     requires few { length (order_of accepted.now.order) ≤ 1024 }
     ensures granted { result ≡ (verdict_of_order I.Item (seat_of (kind_number accepted.now.kind)) (entered sheet.now) accepted.now.k (order_of accepted.now.order)).granted }
     ensures said { content text.new ≡ with_words (verdict_of_order I.Item (seat_of (kind_number accepted.now.kind)) (entered sheet.now) accepted.now.k (order_of accepted.now.order)).text (content text.old) }
+    ensures short { length (verdict_of_order I.Item (seat_of (kind_number accepted.now.kind)) (entered sheet.now) accepted.now.k (order_of accepted.now.order)).text ≤ 150639 }
 {
     let numbers: [u16; 1024] = accepted.order.numbers();
     let proposal = Proposal {
@@ -40,6 +44,7 @@ fn say_accepted<I: Item>(sheet: &Sheet<I>, accepted: &Accepted, text: &mut Text)
 fn say_report<I: Item>(bytes: &[u8], records: &mut [Operation<I>], text: &mut Text) -> bool
     ensures granted { result ≡ (saying I.Item (reading I.Item (min (length records.old) 1024) bytes.now)).granted }
     ensures said { content text.new ≡ with_words (saying I.Item (reading I.Item (min (length records.old) 1024) bytes.now)).text (content text.old) }
+    ensures short { length (saying I.Item (reading I.Item (min (length records.old) 1024) bytes.now)).text ≤ 150639 }
 {
     let mut sheet = Sheet::new(records);
     match read(bytes, &mut sheet) {
@@ -52,10 +57,11 @@ fn say_report<I: Item>(bytes: &[u8], records: &mut [Operation<I>], text: &mut Te
 }
 
 // Says of a trace its order's certificate, or the one line of its refusal, and answers whether a certificate is granted:
-// exactly to the bytes of a true trace, of tickets or of stamps.
+// exactly to the bytes of a true trace, of tickets or of stamps. No report has more than `LONGEST` bytes.
 pub fn report_trace(bytes: &[u8], text: &mut Text) -> bool
     ensures granted { result ≡ (report_on bytes.now).granted }
     ensures said { content text.new ≡ with_words (report_on bytes.now).text (content text.old) }
+    ensures short { length (report_on bytes.now).text ≤ 150639 }
     ensures granted_exactly_when_true_order { (result ≡ true → TrueTraceOfEither bytes.now) × (TrueTraceOfEither bytes.now → result ≡ true) }
 {
     // Kept (no plainer): an item type is chosen by a type argument, and a trait of all that is done by item type says no less.

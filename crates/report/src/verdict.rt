@@ -34,7 +34,8 @@ fn say_certificate<I: Item>(
     requires ranks { length proposal.now.order.now ≤ length buffers.now.ranks.now }
     requires instants { length proposal.now.order.now ≤ length buffers.now.instants.now }
     requires latenesses { length (entered sheet.now) ≤ length buffers.now.latenesses.now }
-    ensures { content text.new ≡ with_words (granting (entered sheet.now) proposal.now.k proposal.now.order.now certificate (held buffers.now)).text (content text.old) }
+    ensures said { content text.new ≡ with_words (granting (entered sheet.now) proposal.now.k proposal.now.order.now certificate (held buffers.now)).text (content text.old) }
+    ensures short { length proposal.now.order.now ≤ 1024 → length (granting (entered sheet.now) proposal.now.k proposal.now.order.now certificate (held buffers.now)).text ≤ 150639 }
 {
     say_steps(proposal.order, buffers.ranks, buffers.instants, text);
     say_lates(sheet, buffers.latenesses, text);
@@ -56,7 +57,8 @@ fn say_answer<I: Item>(
     requires ranks { length proposal.now.order.now ≤ length buffers.now.ranks.now }
     requires instants { length proposal.now.order.now ≤ length buffers.now.instants.now }
     requires latenesses { length (entered sheet.now) ≤ length buffers.now.latenesses.now }
-    ensures { content text.new ≡ with_words (answering (entered sheet.now) proposal.now.k proposal.now.order.now answer (held buffers.now)).text (content text.old) }
+    ensures said { content text.new ≡ with_words (answering (entered sheet.now) proposal.now.k proposal.now.order.now answer (held buffers.now)).text (content text.old) }
+    ensures short { length proposal.now.order.now ≤ 1024 → length (answering (entered sheet.now) proposal.now.k proposal.now.order.now answer (held buffers.now)).text ≤ 150639 }
 {
     match answer {
         Ok(certificate) => say_certificate(sheet, proposal, certificate, buffers, text),
@@ -75,6 +77,7 @@ pub(crate) fn say_verdict<I: Item>(
     requires few { length proposal.now.order.now ≤ 1024 }
     ensures granted { result ≡ (verdict_of_order I.Item (seat_of (kind_number kind)) (entered sheet.now) proposal.now.k proposal.now.order.now).granted }
     ensures said { content text.new ≡ with_words (verdict_of_order I.Item (seat_of (kind_number kind)) (entered sheet.now) proposal.now.k proposal.now.order.now).text (content text.old) }
+    ensures short { length (verdict_of_order I.Item (seat_of (kind_number kind)) (entered sheet.now) proposal.now.k proposal.now.order.now).text ≤ 150639 }
 {
     let mut ranks = [0u16; 1024];
     let mut instants = [0u64; 1024];

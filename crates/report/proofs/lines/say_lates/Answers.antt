@@ -1,9 +1,11 @@
 use Rattle.std.proofs.Common.{◌≡◌, ◌≤◌, length, get_or, sym, ap, ◌∙◌, ⊎_elim, arith, rules}
+use Rattle.std.proofs.lemmas.List.{length-take}
 use Rattle.std.specs.Iterator.Adapters.{enumerate_count}
 use Rattle.sheet.specs.Sheets.{entered}
 use Rattle.text.specs.Contents.{content, with_words}
 use Rattle.text.proofs.Contents.{nothing_said}
 use Rattle.report.specs.Lines.{up_to, line_of_late, late_of, late_of_method, late_at}
+use Rattle.report.proofs.Lengths.{lates_short}
 use Rattle.report.proofs.Listings.{one_more, none_more, taken, at_end, not_added}
 use Rattle.report.proofs.lines.say_lates.Goals as goal
 
@@ -53,8 +55,8 @@ loop-number-preserved g c =
           (ap (late_of n (get_or lates n 0)) o.got ∙ not_added n (get_or lates n 0) c.in-Some.op.now.method c.in_default.not-Add);
     }
 
-pub returns : goal.returns
-returns g c =
+pub returns-clause-said : goal.returns-clause-said
+returns-clause-said g c =
     let i = c.loop-number.invariant in
     let n = enumerate_count c.loop-number.number-iterator in
     let all : length (entered c.args.sheet.now) ≤ enumerate_count c.loop-number.number-iterator =
@@ -63,3 +65,9 @@ returns g c =
     c.in-None.ensures.steps.0 in
     let end : enumerate_count c.loop-number.number-iterator ≡ length (entered c.args.sheet.now) = omega (arith, i.within) in
     i.said ∙ ap (λ m. with_words (up_to m (late_at (entered c.args.sheet.now) c.args.latenesses.now)) (content c.args.text.now)) end
+
+pub returns-clause-short : goal.returns-clause-short
+returns-clause-short g c =
+    let sheet = c.args.sheet.now in
+    let few : length (entered c.args.sheet.now) ≤ 1024 = omega (arith, length-take sheet.count sheet.records.now, sheet.bounded) in
+    lates_short (entered sheet) c.args.latenesses.now few (λ i. omega (arith, c.type_inv.latenesses i))

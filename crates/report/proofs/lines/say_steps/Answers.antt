@@ -3,6 +3,7 @@ use Rattle.std.specs.Iterator.Adapters.{enumerate_count}
 use Rattle.text.specs.Contents.{content, with_words}
 use Rattle.text.proofs.Contents.{nothing_said}
 use Rattle.report.specs.Lines.{up_to, line_of_step, step_at}
+use Rattle.report.proofs.Lengths.{steps_short}
 use Rattle.report.proofs.Listings.{one_more, taken, at_end}
 use Rattle.report.proofs.lines.say_steps.Goals as goal
 
@@ -36,8 +37,8 @@ loop-step-preserved c =
           (c.say.ensures ∙ ap (λ m. with_words (line_of_step m c.in-Some.operation.now c.in-Some.rank.now c.in-Some.at.now) (content c.loop-step.text)) s.1);
     }
 
-pub returns : goal.returns
-returns c =
+pub returns-clause-said : goal.returns-clause-said
+returns-clause-said c =
     let i = c.loop-step.invariant in
     let n = enumerate_count c.loop-step.step-iterator in
     let all : length c.args.order.now ≤ enumerate_count c.loop-step.step-iterator =
@@ -47,3 +48,7 @@ returns c =
     c.in-None.ensures.steps.0 in
     let end : enumerate_count c.loop-step.step-iterator ≡ length c.args.order.now = omega (arith, i.within) in
     i.said ∙ ap (λ m. with_words (up_to m (step_at c.args.order.now c.args.ranks.now c.args.instants.now)) (content c.args.text.now)) end
+
+pub returns-clause-short : goal.returns-clause-short
+returns-clause-short c few =
+    steps_short c.args.order.now c.args.ranks.now c.args.instants.now few (λ i. omega (arith, c.type_inv.order i)) (λ i. omega (arith, c.type_inv.ranks i)) (λ i. omega (arith, c.type_inv.instants i))

@@ -1,4 +1,4 @@
-use Rattle.std.proofs.Common.{ap, ◌∙◌}
+use Rattle.std.proofs.Common.{◌≤◌, length, ap, subst, ◌∙◌}
 use Rattle.sheet.specs.Sheets.{entered}
 use Rattle.frame.specs.Kinds.{kind_number}
 use Rattle.frame.specs.Orders.{order_of}
@@ -16,4 +16,5 @@ returns g c =
     record {
       granted = c.say_verdict.ensures.granted ∙ ap (λ (v : Verdict). v.granted) same;
       said = c.say_verdict.ensures.said ∙ ap (λ (v : Verdict). with_words v.text (content c.args.text.now)) same;
+      short = subst (λ (v : Verdict). length v.text ≤ 150639) same c.say_verdict.ensures.short;
     }

@@ -1,4 +1,4 @@
-use Rattle.std.proofs.Common.{◌≡◌, min, length, refl, sym, ap, ◌∙◌, arith, rules}
+use Rattle.std.proofs.Common.{◌≡◌, ◌≤◌, min, length, refl, sym, ap, subst, ◌∙◌, arith, rules}
 use Rattle.sheet.specs.Sheets.{entered, room}
 use Rattle.trace.specs.Faults.{read_refusal}
 use Rattle.trace.specs.Reading.{reading}
@@ -22,6 +22,7 @@ returns-in-Ok g c =
     record {
       granted = c.say_accepted.ensures.granted ∙ ap (λ (v : Verdict). v.granted) same;
       said = c.say_accepted.ensures.said ∙ ap (λ (v : Verdict). with_words v.text (content c.args.text.now)) same;
+      short = subst (λ (v : Verdict). length v.text ≤ 150639) same c.say_accepted.ensures.short;
     }
 
 pub returns-in-Err : goal.returns-in-Err
@@ -35,6 +36,9 @@ returns-in-Err g c =
     record {
       granted = ap (λ (v : Verdict). v.granted) same;
       said =
-          c.say_refused.ensures ∙ ap (λ r. with_words (refusing r).text (content c.args.text.now)) c.from.ensures
+          c.say_refused.ensures.said ∙ ap (λ r. with_words (refusing r).text (content c.args.text.now)) c.from.ensures
           ∙ ap (λ (v : Verdict). with_words v.text (content c.args.text.now)) same;
+      short =
+          subst (λ (v : Verdict). length v.text ≤ 150639) (ap refusing c.from.ensures ∙ same)
+          (let few = c.say_refused.ensures.short in omega (arith, few));
     }

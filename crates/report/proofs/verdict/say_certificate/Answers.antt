@@ -1,4 +1,4 @@
-use Rattle.std.proofs.Common.{◌++◌}
+use Rattle.std.proofs.Common.{◌++◌, arith, length-append}
 use Rattle.sheet.specs.Sheets.{entered}
 use Rattle.text.specs.Contents.{content}
 use Rattle.text.proofs.Contents.{then_said}
@@ -11,5 +11,9 @@ returns g c =
     let steps = lines_of_steps c.args.proposal.now.order.now b.ranks.now b.instants.now in
     let lates = lines_of_lates (entered c.args.sheet.now) b.latenesses.now in
     let last = line_of_certified c.args.proposal.now.k c.args.certificate in
-    then_said steps (lates ++ last) (content c.args.text.now) c.say_steps.ensures
-    (then_said lates last (content c.say_steps.new.text) c.say_lates.ensures c.say.ensures)
+    record {
+      said =
+          then_said steps (lates ++ last) (content c.args.text.now) c.say_steps.ensures.said
+          (then_said lates last (content c.say_steps.new.text) c.say_lates.ensures.said c.say.ensures.said);
+      short = λ few. omega (arith, length-append steps (lates ++ last), length-append lates last, c.say_steps.ensures.short few, c.say_lates.ensures.short, c.say.ensures.short);
+    }

@@ -1,4 +1,4 @@
-use Rattle.std.proofs.Common.{◌≤◌, ℕ, length, replicate, sym, ap, ◌∙◌, arith}
+use Rattle.std.proofs.Common.{◌≤◌, ℕ, length, replicate, sym, ap, subst, ◌∙◌, arith}
 use Rattle.std.proofs.lemmas.List.{length-take, length-replicate}
 use Rattle.sheet.specs.Sheets.{entered}
 use Rattle.frame.specs.Kinds.{kind_number}
@@ -26,5 +26,6 @@ returns g c =
     let same = order_said t seat (entered sheet) k p b few few few answer after e.answer e.written in
     record {
       granted = c.is_ok.ensures.value ∙ sym (granted_as t seat (entered sheet) k p answer after) ∙ ap (λ (v : Verdict). v.granted) same;
-      said = c.say_answer.ensures ∙ ap (λ (v : Verdict). with_words v.text (content c.args.text.now)) same;
+      said = c.say_answer.ensures.said ∙ ap (λ (v : Verdict). with_words v.text (content c.args.text.now)) same;
+      short = subst (λ (v : Verdict). length v.text ≤ 150639) same (c.say_answer.ensures.short c.requires.few);
     }
