@@ -6,6 +6,7 @@ use crate::entry::Entry;
 
 // A tree of instants. At 1,024 plus the number of an operation stands its end while it is awaited, and at each other place
 // from 1,024 on the last instant of all; at each lower place from 1 on, the lesser of the two at twice the place and after it.
+// Place 0 is unused.
 // Kept (rule of the project): an array, which is memory of a fixed size.
 #[derive(Drop)]
 pub struct Awaited {
@@ -57,7 +58,7 @@ fn with_ends(table: &[Entry]) -> [u64; 2048]
 }
 
 impl Awaited {
-    // The ends of the operations of the table, and elsewhere the last instant of all.
+    // The ends of the operations of the table, and past it the last instant of all.
     pub(crate) fn of(table: &[Entry]) -> Awaited
         requires { length table.now ≤ 1024 }
         ensures ends { (x : ℕ) → x < 1024 → end_at result.least x ≡ end_if (nat_lt x (length table.now)) (entry_of table.now x) }
