@@ -19,7 +19,7 @@ use item::item::Item;
 use sheet::sheet::Sheet;
 
 // Certifies into three slices.
-// Kept (proof): with `docket.certify(&mut buffers.lend())` in `fill` its clause `answer` stays open, since what a `Vec` holds is known after a slice of it was lent as a parameter, and not after it was lent in a struct; a `Buffers` written in `fill` is refused by the borrow checker, which has no lending through a reference that is lent.
+// Kept (proof): with a method of `OwnBuffers` that lends the three, and `docket.certify(&mut buffers.lend())` in `fill`, its clause `answer` stays open, since what a `Vec` holds is known after a slice of it was lent as a parameter, and not after it was lent in a struct; a `Buffers` written in `fill` is refused by the borrow checker, which has no lending through a reference that is lent.
 fn certify_into<H: Holder>(
     docket: &Docket<H>,
     ranks: &mut [u16],

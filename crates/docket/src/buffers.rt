@@ -1,9 +1,7 @@
 // The memory that a certificate is written into.
-ghost use Rattle.std.specs.Prelude.{◌≡◌, replicate, IfOk};
+ghost use Rattle.std.specs.Prelude.{◌≡◌};
 ghost use Rattle.calls.specs.Rules.{is_too_short};
-ghost use Rattle.docket.specs.Buffers.{buffers_of, held, owned};
-
-use std::alloc::{AllocError, Global};
+ghost use Rattle.docket.specs.Buffers.{held};
 
 // Three buffers that a caller lends: for the rank errors and the earliest instants by step, and for the latenesses by
 // operation.
@@ -25,34 +23,10 @@ impl Buffers<'_> {
     }
 }
 
-// Three buffers of one's own, which are lent together.
+// Three buffers of one's own, as a call in a list has them.
 #[derive(Drop)]
 pub struct OwnBuffers {
     pub ranks: Vec<u16>,
     pub instants: Vec<u64>,
     pub latenesses: Vec<u16>,
-}
-
-impl OwnBuffers {
-    // Buffers with so many zeros each.
-    pub fn new(heap: Global, count: usize) -> Result<OwnBuffers, AllocError>
-        ensures { IfOk result (λ b. owned b ≡ buffers_of (replicate count 0) (replicate count 0) (replicate count 0)) }
-    {
-        Ok(OwnBuffers {
-            ranks: vec![in heap; 0u16; count]?,
-            instants: vec![in heap; 0u64; count]?,
-            latenesses: vec![in heap; 0u16; count]?,
-        })
-    }
-
-    // The same, lent together.
-    pub fn lend(&mut self) -> Buffers<'_>
-        ensures { held result ≡ owned self.old }
-    {
-        Buffers {
-            ranks: self.ranks.as_mut_slice(),
-            instants: self.instants.as_mut_slice(),
-            latenesses: self.latenesses.as_mut_slice(),
-        }
-    }
 }

@@ -97,7 +97,6 @@ mod tests {
     use calls::certificate::Certificate;
     use calls::fault::RefusalCode;
     use docket::answer_calls::answer_calls;
-    use docket::buffers::OwnBuffers;
     use docket::slot::Slot;
     use holder::holder::Holder;
     use holder::queue::Queue;
@@ -169,19 +168,6 @@ mod tests {
             &[0, 1, 0, 0, 0, 0],
         );
         assert_eq!(rt; written, certificate(1, 1, 4));
-        Ok(())
-    }
-
-    #[test]
-    fn own_buffers(rt: HostRuntime) -> Result<(), Fail> {
-        let mut own = OwnBuffers::new(rt.alloc(), 2)?;
-        let lent = own.lend();
-        lent.ranks[1] = 3;
-        lent.instants[0] = 5;
-        lent.latenesses[1] = 7;
-        assert_eq!(rt; own.ranks.as_slice(), [0, 3].as_slice());
-        assert_eq!(rt; own.instants.as_slice(), [5, 0].as_slice());
-        assert_eq!(rt; own.latenesses.as_slice(), [0, 7].as_slice());
         Ok(())
     }
 
