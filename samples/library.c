@@ -18,14 +18,15 @@ struct outcome {
 void examiner_certify(const uint8_t *bytes, size_t length, uint16_t *ranks, size_t most_ranks, uint64_t *instants,
                       size_t most_instants, uint16_t *latenesses, size_t most_latenesses, struct outcome *outcome);
 
-/* The text that `examine` prints, over the front of the memory where it fits, and its length: 0 for want of memory. */
+/* The text that `examine` prints, over the front of the memory as far as it fits, and its length, or 0 where it does not
+   fit. No text has more than 150,639 bytes. */
 size_t examiner_report(const uint8_t *bytes, size_t length, uint8_t *text, size_t room);
 
-/* The answer to a case of docs/COMPARISON.md, in the same way. */
+/* The answer to a case of docs/COMPARISON.md, in the same way; for calls on a docket also 0 where memory is wanting. */
 size_t examiner_answer(uint8_t letter, const uint8_t *body, size_t length, uint8_t *text, size_t room);
 
 int main(void) {
-    static uint8_t bytes[1 << 16], text[1 << 18];
+    static uint8_t bytes[1 << 16], text[150639];
     static uint16_t ranks[1024], latenesses[1024];
     static uint64_t instants[1024];
     struct outcome o;
@@ -36,6 +37,6 @@ int main(void) {
     else
         printf("refused: layer %u, number %u, place %u, detail %u\n", o.layer, o.number, o.place, o.detail);
     size_t written = examiner_report(bytes, length, text, sizeof text);
-    fwrite(text, 1, written <= sizeof text ? written : 0, stdout);
+    fwrite(text, 1, written, stdout);
     return o.status;
 }

@@ -15,7 +15,7 @@ use Rattle.order.specs.Steps.{no_operation}
 use Rattle.docket.specs.Kept.{fresh, blank, entry_of}
 use Rattle.docket.specs.Pairs.{paired_of, paired_all}
 use Rattle.docket.specs.InAgreement.{paired_in}
-use Rattle.docket.proofs.Made.{made}
+use Rattle.giving.proofs.Made.{made}
 use Rattle.docket.proofs.Table.{op_at, length_ops}
 
 -- what a look-up among the operations of a sheet found, and that operation as it is paired

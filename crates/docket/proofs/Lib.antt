@@ -9,6 +9,5 @@ pub mod Lifting
 pub mod Sums
 pub mod Certified
 pub mod AnsweredSlots
-pub mod Made
 pub mod Awaiting
 pub mod Runs

@@ -1,6 +1,5 @@
 -- What callers in other languages get: plain numbers, and text over the front of their memory.
-use Rattle.std.specs.Prelude.{◌≡◌, ℕ, ◌<◌, ◌⊎◌, cond, List, length, Ok, Err, Result, nat_le}
-use Rattle.giving.specs.Fronts.{over}
+use Rattle.std.specs.Prelude.{◌≡◌, ℕ, cond, List, ◌++◌, length, take, drop, Ok, Err, Result, nat_le}
 use Rattle.refusal.specs.declared.Refusal.{Refusal}
 use Rattle.refusal.specs.declared.Layer.{Layer}
 use Rattle.refusal.specs.declared.Layer.TheVariants.{Frame, Record, Item, Sheet, Docket, Holder}
@@ -34,11 +33,14 @@ plain (Err f) = record {
 abbrev pub certificate_in : PlainOutcome → Certificate
 certificate_in o = record { total = o.total; largest = o.largest; first = o.first }
 
--- memory with a text over its front, or as it was where the text does not fit
+-- memory with a text over its front, as far as it fits
 abbrev pub with_text : List ℕ → List ℕ → List ℕ
-with_text text memory = cond (nat_le (length text) (length memory)) (over text memory) memory
+with_text text memory = take (length memory) text ++ drop (length text) memory
 
--- the text is over the front of the memory that was given and its length is answered, which is never 0, or there was not enough memory to
--- make it: then 0 is answered, and the memory is as it was given
-abbrev pub WrittenOrNone : List ℕ → List ℕ → ℕ → List ℕ → Type 0
-WrittenOrNone text before n after = ((0 < n) × (n ≡ length text) × (after ≡ with_text text before)) ⊎ ((n ≡ 0) × (after ≡ before))
+-- how long a text is that fits the memory, and 0 of one that does not
+abbrev pub length_within : List ℕ → List ℕ → ℕ
+length_within text memory = cond (nat_le (length text) (length memory)) (length text) 0
+
+-- the text is over the front of the memory that was given, and its length is answered
+abbrev pub Written : List ℕ → List ℕ → ℕ → List ℕ → Type 0
+Written text before n after = (n ≡ length_within text before) × (after ≡ with_text text before)

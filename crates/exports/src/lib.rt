@@ -1,21 +1,25 @@
 // What callers in Rust and C can link: bytes in memory, examined.
 #![tactic(auto)]
 
-ghost use Rattle.std.specs.Prelude.{◌≡◌, false, length};
+ghost use Rattle.std.specs.Prelude.{◌≡◌, ◌≢◌, ◌≤◌, ◌⊎◌, false, length};
+ghost use Rattle.std.specs.Option.{option_map, unwrap_or};
 ghost use Rattle.calls.specs.Rules.{is_too_short};
 ghost use Rattle.docket.specs.Buffers.{buffers_of};
 ghost use Rattle.examination.specs.Traces.{examination_of, TrueTraceOfEither, count_of, CertifiedOfEither};
 ghost use Rattle.report.specs.Reports.{report_on};
+ghost use Rattle.text.specs.Contents.{content, all_said};
 ghost use Rattle.comparison.specs.Cases.{case_answer};
-ghost use Rattle.exports.specs.Plain.{number_of_layer, plain, certificate_in, with_text, WrittenOrNone};
+ghost use Rattle.exports.specs.Plain.{number_of_layer, plain, certificate_in, Written};
 
 use calls::certificate::Certificate;
 use comparison::case::answer_case;
+use comparison::heap::Heap;
 use docket::buffers::Buffers;
 use examination::examining::certify_trace;
 use refusal::{Layer, Refusal};
 use report::report::report_trace;
 use std::alloc::Global;
+use text::text::Text;
 
 // What came of an examination, as plain numbers.
 // Kept (C interface): callers in C read numbers, so an outcome, a layer and a refusal are numbers here.
@@ -74,15 +78,12 @@ impl From<Result<Certificate, Refusal>> for PlainOutcome {
     }
 }
 
-// Writes a text over the front of the memory where it fits, and answers how long it is.
-fn write_text(text: &[u8], memory: &mut [u8]) -> usize
-    ensures length { result ≡ length text.now }
-    ensures memory { memory.new ≡ with_text text.now memory.old }
+// How long all is that was said, or 0 where something of it did not fit.
+// Kept (C interface): a caller in C reads one number, so none is 0 here.
+fn length_of(text: &Text) -> usize
+    ensures { result ≡ unwrap_or (option_map length (all_said (content text.now))) 0 }
 {
-    if text.len() <= memory.len() {
-        memory[..text.len()].copy_from_slice(text);
-    }
-    text.len()
+    text.whole().map_or(0, |said| said.len())
 }
 
 // Examines a trace: the certificate or the refusal as plain numbers, with rank errors, instants and latenesses over the
@@ -109,28 +110,29 @@ pub extern "C" fn examiner_certify(
     *outcome = PlainOutcome::from(certify_trace(bytes, &mut buffers));
 }
 
-// Writes the text that is printed of a trace over the front of the memory, where it fits, and answers how long it is;
-// 0 where there was not enough memory to make it.
-// Kept (C interface): a caller in C reads one number, so an Option is 0 here, which no text has as its length.
+// Writes the text that is printed of a trace over the front of the memory, as far as it fits, and answers how long it is;
+// 0 where it does not fit, as it always does in 150,639 bytes.
 #[unsafe(no_mangle)]
-pub extern "C" fn examiner_report(heap: Global, bytes: &[u8], text: &mut [u8]) -> usize
-    ensures { WrittenOrNone (report_on bytes.now).text text.old result text.new }
+pub extern "C" fn examiner_report(bytes: &[u8], memory: &mut [u8]) -> usize
+    ensures written { Written (report_on bytes.now).text memory.old result memory.new }
+    ensures longest { 150639 ≤ length memory.old → result ≡ length (report_on bytes.now).text }
 {
-    match report_trace(heap, bytes) {
-        Ok(report) => write_text(report.text.as_bytes(), text),
-        Err(_) => 0,
-    }
+    let mut text = Text::new(memory);
+    report_trace(bytes, &mut text);
+    length_of(&text)
 }
 
-// Writes the answer to a case over the front of the memory, where it fits, and answers how long it is; 0 where there was
-// not enough memory to make it.
-// Kept (C interface): a caller in C reads one number, so an Option is 0 here, which no answer has as its length.
+// Writes the answer to a case over the front of the memory, as far as it fits, and answers how long it is; 0 where it does
+// not fit, and, for the calls on a docket alone, where there was not enough memory for them.
 #[unsafe(no_mangle)]
-pub extern "C" fn examiner_answer(heap: Global, letter: u8, body: &[u8], text: &mut [u8]) -> usize
-    ensures { WrittenOrNone (case_answer letter body.now) text.old result text.new }
+pub extern "C" fn examiner_answer(heap: Global, letter: u8, body: &[u8], memory: &mut [u8]) -> usize
+    ensures written_but_for_dockets { letter ≢ 68 → Written (case_answer letter body.now) memory.old result memory.new }
+    ensures written_or_wanting { Written (case_answer letter body.now) memory.old result memory.new ⊎ ((result ≡ 0) × (memory.new ≡ memory.old)) }
 {
-    match answer_case(heap, letter, body) {
-        Ok(answer) => write_text(answer.as_bytes(), text),
+    let mut heap = Heap::new(heap);
+    let mut text = Text::new(memory);
+    match answer_case(&mut heap, letter, body, &mut text) {
+        Ok(()) => length_of(&text),
         Err(_) => 0,
     }
 }

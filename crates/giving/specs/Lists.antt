@@ -1,4 +1,5 @@
--- Lists of codes: how often a code stands in one, where it stands first, the list without it, and where a new one goes in. Assumes nothing.
+-- Lists of codes: how often a code stands in one, where it stands first, the list without it, and where a new one goes in.
+-- Assumes nothing.
 use Rattle.std.specs.Prelude.{◌≡◌, ℕ, suc, ◌+◌, ◌≤◌, Bool, cond, List, [], ◌∷◌, Option, Some, None, length, ◌==◌, nat_lt}
 
 -- how often a stands in a list: a does not stand in it where that is 0

@@ -1,10 +1,8 @@
 // What every refusal says, whichever layer it comes from.
 #![tactic(auto)]
 
-ghost use Rattle.std.specs.Prelude.{◌≡◌, Some};
-ghost use Rattle.refusal.specs.Wording.{layer_name, refusal_line};
-
-use std::fmt;
+ghost use Rattle.std.specs.Prelude.{◌≡◌};
+ghost use Rattle.refusal.specs.Wording.{layer_name};
 
 // The layer that refuses: the frame of a trace, a record in it, an item's number, the sheet, the docket, a strict object.
 #[derive(Clone, Copy, PartialEq, Eq, Debug)]
@@ -41,25 +39,5 @@ impl Layer {
             Layer::Docket => "docket",
             Layer::Holder => "holder",
         }
-    }
-}
-
-impl fmt::Display for Layer {
-    ghost output = { λ l. Some (layer_name l) };
-
-    fn fmt<W: fmt::Write>(&self, f: &mut fmt::Formatter<W>) -> fmt::Result {
-        f.write_str(self.name())
-    }
-}
-
-impl fmt::Display for Refusal {
-    ghost output = { λ r. Some (refusal_line r) };
-
-    fn fmt<W: fmt::Write>(&self, f: &mut fmt::Formatter<W>) -> fmt::Result {
-        write!(
-            f,
-            "refused {} {} place {} detail {}",
-            self.layer, self.number, self.place, self.detail
-        )
     }
 }

@@ -1,11 +1,19 @@
-use Rattle.std.proofs.Common.{◌≡◌, length, ap, ◌∙◌, inl, arith}
-use Rattle.report.specs.Reports.{Verdict, report_on}
-use Rattle.exports.specs.Plain.{with_text}
-use Rattle.exports.proofs.Texts.{report_not_empty}
+use Rattle.std.proofs.Common.{◌≡◌, ap, ◌∙◌, arith, rules}
+use Rattle.text.specs.Contents.{Content, with_words}
+use Rattle.report.specs.Reports.{report_on}
+use Rattle.exports.proofs.Texts.{over_memory, length_over, length_of_fitting}
 use Rattle.exports.proofs.examiner_report.Goals as goal
 
-pub returns-in-Ok : goal.returns-in-Ok
-returns-in-Ok c =
-    let e : c.as_bytes.result.now ≡ (report_on c.args.bytes.now).text = c.as_bytes.ensures.value ∙ ap (λ (v : Verdict). v.text) c.in-Ok.ensures.said in
-    let n = c.write_text.ensures.length ∙ ap length e in
-    inl (omega (arith, n, report_not_empty c.args.bytes.now), n, c.write_text.ensures.memory ∙ ap (λ z. with_text z c.args.text.now) e)
+pub returns : goal.returns
+unfolding with_words
+returns c =
+    let m = c.args.memory.now in
+    let ws = (report_on c.args.bytes.now).text in
+    let after = c.report_trace.new.text in
+    let lender : c.report_trace.new.text.memory.ghost_name ≡ c.new-text.result.memory.ghost_name = ap (λ (x : Content). x.lender) c.report_trace.ensures.said in
+    let said = c.report_trace.ensures.said ∙ ap (with_words ws) c.new-text.ensures.content in
+    let n = length_over ws m _ after said c.length_of.result c.length_of.ensures in
+    record {
+      written = (n, ◌∙◌ {b = c.report_trace.new.text.memory.now} (search (rules, lender)) (over_memory ws m _ after said));
+      longest = λ room. length_of_fitting ws m c.length_of.result n (let short = c.report_trace.ensures.short in omega (arith, short, room));
+    }
