@@ -1,8 +1,9 @@
+pub mod Sayings
 pub mod Hashings
 pub mod Lasts
+pub mod Printed
 pub mod Parts
 pub mod Fronts
 pub mod Files
-pub mod Slots
 pub mod ReadBack
 pub mod CallsBack

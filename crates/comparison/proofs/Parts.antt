@@ -19,13 +19,6 @@ module _ (head count : ℕ) (body : List ℕ) (say : List ℕ → List ℕ → L
       let no : nat_lt (length body) (head + count) ≡ false = grind (arith, nat_tests) in
       rw (no, ea, eb)
 
-  -- so that there is an answer
-  pub parts_answered : {X : Type 0} → head + count ≤ length body → of_parts head count body say ≡ None → X
-  parts_answered fits none =
-      let no : nat_lt (length body) (head + count) ≡ false = grind (arith, nat_tests) in
-      let some = rw no at none in
-      cc
-
 module _ (body : List ℕ) where
   pub told_ticket : slice_index body 0 ≡ 0 → item_told (slice_index body 0) body ≡ Some (number_again ticket_items.number (ticket_items.named (number_in 1 8 body)))
   told_ticket e = rw e

@@ -1,7 +1,5 @@
 -- The calls that bytes say, one after another.
-use Rattle.std.specs.Prelude.{◌≡◌, ℕ, ◌*◌, cond, List, [], ◌∷◌, length, take, drop, replicate, Some, None, Option, Result, IfSome, MatchOption, MatchResult, ◌==◌, nat_lt}
-use Rattle.std.specs.Borrow.{Bor}
-use Rattle.std.specs.declared.alloc.AllocError.{AllocError}
+use Rattle.std.specs.Prelude.{ℕ, ◌*◌, ◌/◌, cond, List, [], ◌∷◌, length, take, drop, replicate, Some, None, Option, ◌==◌, nat_lt}
 use Rattle.std.specs.Int.{from_be_bytes, w16}
 use Rattle.std.specs.Option.{option_map, option_and_then}
 use Rattle.frame.specs.Orders.{numbers_of}
@@ -9,10 +7,10 @@ use Rattle.turns.specs.declared.calls.HolderCall.{HolderCall}
 use Rattle.turns.specs.declared.calls.HolderCall.TheVariants.{Clear, Count, Rank, At, Add, Take}
 use Rattle.calls.specs.Rules.{Buffers}
 use Rattle.docket.specs.Buffers.{buffers_of}
-use Rattle.docket.specs.declared.slot.Slot.{Slot}
-use Rattle.docket.specs.Slots.{call_of}
 use Rattle.calls.specs.Calls.{Call, place, run, lift, certify}
 use Rattle.comparison.specs.Pieces.{all_pieces}
+use Rattle.comparison.specs.declared.slots.SaidCall.{SaidCall}
+use Rattle.comparison.specs.declared.slots.SaidCall.TheVariants.{Place, Run, Lift, Certify}
 
 -- the number of 2 bytes at the front, and the bytes behind it; none where there are fewer
 unfoldable pub front_number : List ℕ → Option (ℕ × List ℕ)
@@ -76,21 +74,16 @@ docket_calls bytes = all_pieces front_docket_call bytes
 
 -- ---- slots for them
 
+-- the call that is said
+abbrev pub call_said : SaidCall → Call
+call_said (Place operation) = place operation
+call_said (Run order) = run (numbers_of (length order.now / 2) order.now)
+call_said Lift = lift
+call_said (Certify ranks instants latenesses) = certify (blank_buffers ranks instants latenesses)
+
 -- a slot for the call takes memory: for a run's order, or for a certify's buffers
 abbrev pub TakesMemory : Call → Type 0
 TakesMemory (place operation) = ⊥
 TakesMemory (run order) = Unit {0}
 TakesMemory lift = ⊥
 TakesMemory (certify buffers) = Unit {0}
-
--- a slot that is made for a call has it, and memory is wanting only for a run or a certify
-abbrev pub IsSlotFor : Call → Result Slot AllocError → Type 0
-IsSlotFor call made = MatchResult made (λ slot. call_of slot ≡ call) (λ e. TakesMemory call)
-
--- the slot is one for the call at the front
-abbrev pub IsSlotForFront : Option (Call × List ℕ) → Option (Result Slot AllocError × Bor (List ℕ)) → Type 0
-IsSlotForFront front r = IfSome r (λ p. IfSome front (λ q. IsSlotFor q.0 p.0))
-
--- from one list of calls to another: the first call is taken, and a slot made for it; none where no call is left
-abbrev pub TakesFirst : List Call → Option (Result Slot AllocError) → List Call → Type 0
-TakesFirst before r after = MatchOption r ((before ≡ []) × (after ≡ [])) (λ made. (call : Call) × (before ≡ call ∷ after) × IsSlotFor call made)

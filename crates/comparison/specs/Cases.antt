@@ -136,6 +136,10 @@ case_told letter body =
     (cond (letter == 82) (reading_case body)
     (cond (letter == 87) (writing_case body) (cond (letter == 68) (docket_case body) (cond (letter == 72) (holder_case body) (cond (letter == 73) (item_case body) None)))))
 
--- that answer, and else the line that it is no case
+-- what is told of a case, and else the line that it is no case
+abbrev pub or_no_case : Option (List ℕ) → List ℕ
+or_no_case told = unwrap_or told (codes "no case")
+
+-- the answer to a case
 abbrev pub case_answer : ℕ → List ℕ → List ℕ
-case_answer letter body = unwrap_or (case_told letter body) (codes "no case")
+case_answer letter body = or_no_case (case_told letter body)

@@ -1,3 +1,4 @@
+pub mod Heaps
 pub mod Hashes
 pub mod Words
 pub mod Pieces

@@ -1,22 +1,24 @@
 // Cases of calls on a holder.
-ghost use Rattle.std.specs.Prelude.{◌≡◌, [], ◌++◌, codes, IfOk, string_bytes};
+ghost use Rattle.std.specs.Prelude.{◌≡◌, [], ◌++◌, codes};
 ghost use Rattle.std.specs.Iterator.{YieldsFirst, item_count};
 ghost use Rattle.std.specs.Option.{option_map};
 ghost use Rattle.frame.specs.Kinds.{kind_number};
 ghost use Rattle.holder.specs.Meanings.{meaning};
 ghost use Rattle.examination.specs.Kinds.{seat_of};
+ghost use Rattle.text.specs.Contents.{content, with_words};
 ghost use Rattle.comparison.specs.Calls.{call_with_number, front_holder_call, holder_calls};
-ghost use Rattle.comparison.specs.Cases.{words_of_calls, holder_case};
+ghost use Rattle.comparison.specs.Cases.{words_of_calls, holder_case, or_no_case};
 
 use crate::numbers::next_number;
-use crate::words::holder_words;
+use crate::words::{holder_words, no_case};
 use counting::queue::CountingQueue;
 use examination::kind::any_kind;
 use frame::kind::Kind;
 use holder::holder::Holder;
 use holder::queue::Queue;
 use holder::stack::Stack;
-use std::alloc::{AllocError, Global};
+use text::piece::Piece::Word;
+use text::text::Text;
 use turns::calls::{HolderCall, answer_to};
 
 // The call of a tag with a number; none where there is no such tag.
@@ -67,40 +69,35 @@ impl<'a> Iterator for Calls<'a> {
 }
 
 // The answers of a holder to the calls that the bytes say, each behind a space.
-fn answers_of<H: Holder + Drop>(
-    heap: Global,
-    mut holder: H,
-    calls: &[u8],
-) -> Result<String, AllocError>
-    ensures { IfOk result (λ s. string_bytes s ≡ codes "holder" ++ words_of_calls H.Holder.seat (meaning (H.Holder.giving holder) (H.Holder.adds holder)) (holder_calls calls.now)) }
+fn answers_of<H: Holder + Drop>(mut holder: H, calls: &[u8], text: &mut Text)
+    ensures { content text.new ≡ with_words (codes "holder" ++ words_of_calls H.Holder.seat (meaning (H.Holder.giving holder) (H.Holder.adds holder)) (holder_calls calls.now)) (content text.old) }
 {
-    let mut text = String::from_str(heap, "holder")?;
+    text.say(&[Word("holder")]);
     for call in Calls(calls) {
-        let words = holder_words(heap, answer_to(&mut holder, call))?;
-        write!(text, " {words}")?;
+        let answer = answer_to(&mut holder, call);
+        text.say(&[Word(" ")]);
+        holder_words(answer, text);
     }
-    Ok(text)
 }
 
 // The same for a new holder of a kind.
-fn answers_by_kind(heap: Global, kind: Kind, calls: &[u8]) -> Result<String, AllocError>
-    ensures { IfOk result (λ s. string_bytes s ≡ codes "holder" ++ words_of_calls (seat_of (kind_number kind)) (meaning [] 0) (holder_calls calls.now)) }
+fn answers_by_kind(kind: Kind, calls: &[u8], text: &mut Text)
+    ensures { content text.new ≡ with_words (codes "holder" ++ words_of_calls (seat_of (kind_number kind)) (meaning [] 0) (holder_calls calls.now)) (content text.old) }
 {
     // Kept (no plainer): the kind is known at run time only, and a match is what picks a holder's type then.
     match kind {
-        Kind::Queue => answers_of(heap, Queue::new(), calls),
-        Kind::Stack => answers_of(heap, Stack::new(), calls),
-        Kind::CountingQueue => answers_of(heap, CountingQueue::new(), calls),
+        Kind::Queue => answers_of(Queue::new(), calls, text),
+        Kind::Stack => answers_of(Stack::new(), calls, text),
+        Kind::CountingQueue => answers_of(CountingQueue::new(), calls, text),
     }
 }
 
-// The answer to a case of calls on a holder, or none where it is no such case.
-pub(crate) fn holder_answer(heap: Global, body: &[u8]) -> Result<Option<String>, AllocError>
-    ensures answer { IfOk result (λ s. option_map string_bytes s ≡ holder_case body.now) }
-    ensures no_case { holder_case body.now ≡ None → result ≡ Ok None }
+// The answer to a case of calls on a holder, or that it is none.
+pub(crate) fn holder_answer(body: &[u8], text: &mut Text)
+    ensures { content text.new ≡ with_words (or_no_case (holder_case body.now)) (content text.old) }
 {
-    let Some((kind, calls)) = body.split_first() else {
-        return Ok(None);
-    };
-    Ok(Some(answers_by_kind(heap, any_kind(*kind), calls)?))
+    match body.split_first() {
+        Some((kind, calls)) => answers_by_kind(any_kind(*kind), calls, text),
+        None => no_case(text),
+    }
 }
