@@ -5,6 +5,7 @@ ghost use Rattle.frame.specs.Orders.{numbers_of};
 use std::alloc::{AllocError, Global};
 
 // The heap, asked for memory here alone. `refused` is set by `noted` alone, of an answer of the heap.
+#[derive(Drop)]
 pub struct Heap {
     global: Global,
     refused: bool,

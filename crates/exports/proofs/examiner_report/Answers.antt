@@ -1,7 +1,7 @@
 use Rattle.std.proofs.Common.{◌≡◌, ap, ◌∙◌, arith, rules}
 use Rattle.text.specs.Contents.{Content, with_words}
 use Rattle.report.specs.Reports.{report_on}
-use Rattle.exports.proofs.Texts.{over_memory, length_over, length_of_fitting}
+use Rattle.exports.proofs.Texts.{length_over, written_over, length_of_fitting}
 use Rattle.exports.proofs.examiner_report.Goals as goal
 
 pub returns : goal.returns
@@ -12,8 +12,8 @@ returns c =
     let after = c.report_trace.new.text in
     let lender : c.report_trace.new.text.memory.ghost_name ≡ c.new-text.result.memory.ghost_name = ap (λ (x : Content). x.lender) c.report_trace.ensures.said in
     let said = c.report_trace.ensures.said ∙ ap (with_words ws) c.new-text.ensures.content in
-    let n = length_over ws m _ after said c.length_of.result c.length_of.ensures in
+    let long = length_over ws m _ after said c.length_of.result c.length_of.ensures in
     record {
-      written = (n, ◌∙◌ {b = c.report_trace.new.text.memory.now} (search (rules, lender)) (over_memory ws m _ after said));
-      longest = λ room. length_of_fitting ws m c.length_of.result n (let short = c.report_trace.ensures.short in omega (arith, short, room));
+      written = written_over ws m _ after said c.length_of.result c.length_of.ensures (search (rules, lender));
+      longest = λ room. length_of_fitting ws m c.length_of.result long (let short = c.report_trace.ensures.short in omega (arith, short, room));
     }
