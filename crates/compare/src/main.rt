@@ -4,19 +4,30 @@
 use anyhow::anyhow;
 use comparison::case::answer_case;
 use comparison::cases::Cases;
+use comparison::heap::Heap;
 use std::io::{Read, Write};
+use text::text::Text;
 
 // How many bytes a file of cases has at most; one more shows that a file is longer.
 const LONGEST: usize = 67_108_864;
 
-// Answers the cases that the bytes hold.
+// How many bytes the answer to a case has at most.
+const LONGEST_ANSWER: usize = 1_048_576;
+
+// Answers the cases that the bytes hold, one after another in the same memory.
 fn answer_all(rt: &HostRuntime, bytes: &[u8]) -> anyhow::Result<()> {
     let mut out = rt.stdout();
+    let mut heap = Heap::new(rt.alloc());
+    let mut memory = vec![in rt.alloc(); 0u8; LONGEST_ANSWER]?;
     for (letter, body) in Cases(bytes) {
-        let text = answer_case(rt.alloc(), letter, body).map_err(|_| anyhow!(
+        let mut text = Text::new(memory.as_mut_slice());
+        answer_case(&mut heap, letter, body, &mut text).map_err(|_| anyhow!(
             "there is not enough memory to answer a case"
         ))?;
-        out.write_all(text.as_bytes())?;
+        let answer = text.whole().ok_or_else(|| anyhow!(
+            "the answer to a case is longer than 1,048,576 bytes: make fewer calls in a case"
+        ))?;
+        out.write_all(answer)?;
         out.write_all(b"\n")?;
     }
     Ok(out.flush()?)

@@ -1,5 +1,5 @@
 // The answer to a case, by its letter.
-ghost use Rattle.std.specs.Prelude.{◌≡◌, ◌≢◌, ◌||◌, Ok, is_ok, is_err, if◌then◌else◌};
+ghost use Rattle.std.specs.Prelude.{◌≡◌, ◌≢◌, ◌||◌, is_ok, is_err, if◌then◌else◌};
 ghost use Rattle.text.specs.Contents.{content, with_words};
 ghost use Rattle.comparison.specs.Heaps.{has_refused};
 ghost use Rattle.comparison.specs.Cases.{case_answer};

@@ -1,5 +1,5 @@
 // Cases of calls on a docket.
-ghost use Rattle.std.specs.Prelude.{◌≡◌, ◌≤◌, ◌||◌, codes, map, length, None, Ok, is_ok, is_err, if◌then◌else◌};
+ghost use Rattle.std.specs.Prelude.{◌≡◌, ◌||◌, codes, map, length, is_ok, is_err, if◌then◌else◌};
 ghost use Rattle.frame.specs.Kinds.{kind_number};
 ghost use Rattle.docket.specs.Buffers.{owned};
 ghost use Rattle.docket.specs.Pairs.{paired_all, sheet_ops};

@@ -4,7 +4,7 @@ ghost use Rattle.frame.specs.Orders.{numbers_of};
 
 use std::alloc::{AllocError, Global};
 
-// The heap, asked for memory here alone. `refused` is set by `noted` alone, of an answer of the heap.
+// The heap, and whether it has refused memory. No other file asks it, and `noted` alone says that it has refused.
 #[derive(Drop)]
 pub struct Heap {
     global: Global,

@@ -1,5 +1,5 @@
 // Cases of traces: examined, read twice, and written.
-ghost use Rattle.std.specs.Prelude.{◌≡◌, ℕ, ◌≤◌, ◌<◌, [], min, length, codes, is_ok, MatchResult, if◌then◌else◌};
+ghost use Rattle.std.specs.Prelude.{◌≡◌, [], min, length, codes, is_ok};
 ghost use Rattle.sheet.specs.Sheets.{entered, room, SameLoan};
 ghost use Rattle.trace.specs.Answers.{read_answer, sheet_after, shown};
 ghost use Rattle.trace.specs.Reading.{reading};
@@ -54,7 +54,8 @@ fn text_words(printed: &str, text: &mut Text)
     ]);
 }
 
-// The answer to a case of a trace: how long what is printed of it is, its hash and its last line.
+// The answer to a case of a trace: how long what is printed of it is, its hash and its last line. All of it fits the memory,
+// and is text, so that nothing stands for it.
 pub(crate) fn trace_answer(body: &[u8], text: &mut Text)
     ensures { content text.new ≡ with_words (words_of_text (report_on body.now).text) (content text.old) }
 {
