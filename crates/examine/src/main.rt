@@ -23,9 +23,9 @@ fn examine(rt: &HostRuntime) -> anyhow::Result<bool> {
         "the report has more bytes than any report can have: nothing is printed of it"
     ))?;
     let mut out = rt.stdout();
-    out.write_all(report)
-        .and_then(|_| out.flush())
-        .context("standard output cannot be written: the report is not complete")?;
+    out.write_all(report).and_then(|_| out.flush()).context(
+        "standard output cannot be written: the report is not complete",
+    )?;
     Ok(granted)
 }
 
