@@ -8,7 +8,8 @@ use reference::generate::{Generator, Made};
 const ROOM: usize = 1 << 20;
 
 extern "C" {
-    // Each slice is a pointer and how many bytes it has. The answer is how long the text is, 0 where memory was wanting.
+    // Each slice is a pointer and how many bytes it has. The answer is how long the text is, 0 where it
+    // does not fit or memory was wanting.
     fn examiner_answer(letter: u8, body: *const u8, length: usize, text: *mut u8, room: usize) -> usize;
 }
 

@@ -4,7 +4,7 @@ ghost use Rattle.comparison.specs.Files.{cases_in};
 
 // The cases that the bytes hold, one after another, each as its letter and its body. Bytes that end within a case end
 // before that case.
-// Kept (no plainer): as one generic iterator with `Slots`, `Calls` and `Cases` it takes a trait with a law, for three bodies of three lines.
+// Kept (no plainer): as one generic iterator for cases, calls on a holder and calls on a docket it takes a trait with a law, for three bodies of three lines.
 #[derive(Drop)]
 pub struct Cases<'a>(pub &'a [u8]);
 

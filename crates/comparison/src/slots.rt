@@ -72,7 +72,7 @@ fn next_call(bytes: &[u8]) -> Option<(SaidCall<'_>, &[u8])>
 }
 
 // The calls that the bytes say, one after another.
-// Kept (no plainer): as one generic iterator with the `Calls` of holders and `Cases` it takes a trait with a law, for three bodies of three lines.
+// Kept (no plainer): as one generic iterator for cases, calls on a holder and calls on a docket it takes a trait with a law, for three bodies of three lines.
 #[derive(Drop)]
 struct Calls<'a>(&'a [u8]);
 

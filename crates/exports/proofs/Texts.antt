@@ -1,5 +1,6 @@
 -- A text over the front of the memory that was lent for it, and its length.
-use Rattle.std.proofs.Common.{◌≡◌, ◌≤◌, ℕ, Bool, true, false, cond, List, ◌++◌, length, take, Some, None, refl, sym, ap, ◌∙◌, arith, nat_le}
+use Rattle.std.proofs.Common.{◌≡◌, ◌<◌, ◌≤◌, ℕ, Bool, true, false, cond, List, ◌++◌, length, take, Some, None, refl, sym, ap, ◌∙◌, ⊎_elim, arith, nat_le}
+use Rattle.std.proofs.lemmas.Bool.{cases_lt}
 use Rattle.std.proofs.lemmas.Bool.Decides.{nat_tests}
 use Rattle.std.proofs.lemmas.List.{take_all, take-append-drop}
 use Rattle.std.specs.Option.{option_map, unwrap_or}
@@ -29,3 +30,8 @@ module _ (ws m : List ℕ) where
 -- one that fits
 pub length_of_fitting : (ws m : List ℕ) (n : ℕ) → n ≡ length_within ws m → length ws ≤ length m → n ≡ length ws
 length_of_fitting ws m n e l = let fits : nat_le (length ws) (length m) ≡ true = grind (arith, nat_tests) in e ∙ ap (λ b. cond b (length ws) 0) fits
+
+-- 0 is answered for a text that is not empty only where it does not fit
+pub none_where_too_long : (ws m : List ℕ) (n : ℕ) → 0 < length ws → n ≡ length_within ws m → n ≡ 0 → length m < length ws
+none_where_too_long ws m n some e z =
+    ⊎_elim (λ h. h) (λ h. let l = length_of_fitting ws m n e h in absurd (omega (arith, l, some, z))) (cases_lt (length m) (length ws))

@@ -1,7 +1,7 @@
 // What callers in Rust and C can link: bytes in memory, examined.
 #![tactic(auto)]
 
-ghost use Rattle.std.specs.Prelude.{◌≡◌, ◌≢◌, ◌≤◌, ◌⊎◌, false, length};
+ghost use Rattle.std.specs.Prelude.{◌≡◌, ◌≢◌, ◌<◌, ◌≤◌, ◌⊎◌, false, length};
 ghost use Rattle.std.specs.Option.{option_map, unwrap_or};
 ghost use Rattle.calls.specs.Rules.{is_too_short};
 ghost use Rattle.docket.specs.Buffers.{buffers_of};
@@ -116,6 +116,7 @@ pub extern "C" fn examiner_certify(
 pub extern "C" fn examiner_report(bytes: &[u8], memory: &mut [u8]) -> usize
     ensures written { Written (report_on bytes.now).text memory.old result memory.new }
     ensures longest { 150639 ≤ length memory.old → result ≡ length (report_on bytes.now).text }
+    ensures none_where_too_long { result ≡ 0 → length memory.old < length (report_on bytes.now).text }
 {
     let mut text = Text::new(memory);
     report_trace(bytes, &mut text);
@@ -127,6 +128,7 @@ pub extern "C" fn examiner_report(bytes: &[u8], memory: &mut [u8]) -> usize
 #[unsafe(no_mangle)]
 pub extern "C" fn examiner_answer(heap: Global, letter: u8, body: &[u8], memory: &mut [u8]) -> usize
     ensures written_but_for_dockets { letter ≢ 68 → Written (case_answer letter body.now) memory.old result memory.new }
+    ensures none_where_too_long { letter ≢ 68 → result ≡ 0 → length memory.old < length (case_answer letter body.now) }
     ensures written_or_wanting { Written (case_answer letter body.now) memory.old result memory.new ⊎ ((result ≡ 0) × (memory.new ≡ memory.old)) }
 {
     let mut heap = Heap::new(heap);

@@ -1,7 +1,8 @@
 use Rattle.std.proofs.Common.{◌≡◌, ap, ◌∙◌, arith, rules}
 use Rattle.text.specs.Contents.{Content, with_words}
 use Rattle.report.specs.Reports.{report_on}
-use Rattle.exports.proofs.Texts.{length_over, written_over, length_of_fitting}
+use Rattle.exports.proofs.NotEmpty.{report_not_empty}
+use Rattle.exports.proofs.Texts.{length_over, written_over, length_of_fitting, none_where_too_long}
 use Rattle.exports.proofs.examiner_report.Goals as goal
 
 pub returns : goal.returns
@@ -16,4 +17,5 @@ returns c =
     record {
       written = written_over ws m _ after said c.length_of.result c.length_of.ensures (search (rules, lender));
       longest = λ room. length_of_fitting ws m c.length_of.result long (let short = c.report_trace.ensures.short in omega (arith, short, room));
+      none_where_too_long = λ z. none_where_too_long ws m c.length_of.result (report_not_empty c.args.bytes.now) long z;
     }
