@@ -1,5 +1,6 @@
 -- What is printed of a trace is text, so that a last line of it can be said. Assumes nothing.
 use Rattle.std.proofs.Common.{◌≡◌, ℕ, zero, suc, ◌/◌, ◌%◌, ◌<◌, Bool, true, false, cond, ◌&&◌, ◌==◌, nat_lt, List, [], ◌∷◌, ◌++◌, length, codes, decimal, get_or, Some, None, Option, refl, arith}
+use Rattle.std.proofs.lemmas.Bool.{and_parts, cond_both}
 use Rattle.std.proofs.lemmas.Bool.Decides.{nat_tests}
 use Rattle.std.proofs.lemmas.Str.{IsUtf8-nil, IsUtf8-append, IsUtf8-from_ascii}
 use Rattle.std.proofs.lemmas.Str.Ascii.{IsAscii-nil, IsAscii-cons}
@@ -32,10 +33,6 @@ use Rattle.report.specs.Lines.{line_of_step, line_of_late, line_of_certified, up
 use Rattle.report.specs.Reports.{Verdict, refused_text, granting, ops, whole, stopping, saying, report_on}
 
 -- ---- words and numbers
-
-and_parts : (a b : Bool) → (a && b) ≡ true → (a ≡ true) × (b ≡ true)
-and_parts true b h = (refl, h)
-and_parts false b h = cc
 
 digits_text : (k n : ℕ) (acc : List ℕ) → IsAscii acc → IsAscii (digits_onto k 10 false n acc)
 digits_text zero n acc h = h
@@ -145,11 +142,7 @@ saying_text t (unread e) = refused_is_text (frame_refusal e)
 saying_text t (refused os i e) = refused_is_text (entry_refusal i e)
 saying_text t (accepted c) = stopping_text t (seat_of c.kind) c.ops c.k c.order (run_of (seat_of c.kind) (ops t (seat_of c.kind) c.ops c.k) c.k [] 0 c.order).stopped
 
-either_text : (b : Bool) (v w : Verdict) → IsUtf8 v.text → IsUtf8 w.text → IsUtf8 (cond b v w).text
-either_text true v w hv hw = hv
-either_text false v w hv hw = hw
-
 pub report_text : (bs : List ℕ) → IsUtf8 (report_on bs).text
 report_text bs =
-    either_text (type_of bs == 1) (saying stamp_items (reading stamp_items 1024 bs)) (saying ticket_items (reading ticket_items 1024 bs)) (saying_text stamp_items (reading stamp_items 1024 bs))
-    (saying_text ticket_items (reading ticket_items 1024 bs))
+    cond_both (type_of bs == 1) (saying stamp_items (reading stamp_items 1024 bs)) (saying ticket_items (reading ticket_items 1024 bs)) (λ (v : Verdict). IsUtf8 v.text)
+    (λ e. saying_text stamp_items (reading stamp_items 1024 bs)) (λ e. saying_text ticket_items (reading ticket_items 1024 bs))

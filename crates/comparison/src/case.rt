@@ -2,7 +2,7 @@
 ghost use Rattle.std.specs.Prelude.{◌≡◌, ◌≢◌, ◌||◌, is_ok, is_err, if◌then◌else◌};
 ghost use Rattle.text.specs.Contents.{content, with_words};
 ghost use Rattle.comparison.specs.Heaps.{has_refused};
-ghost use Rattle.comparison.specs.Cases.{case_answer};
+ghost use Rattle.comparison.specs.Cases.{docket_case, case_answer};
 
 use crate::dockets::docket_answer;
 use crate::heap::Heap;
@@ -23,6 +23,7 @@ pub fn answer_case(
 ) -> Result<(), AllocError>
     ensures said { content text.new ≡ (if is_ok result then with_words (case_answer letter body.now) (content text.old) else content text.old) }
     ensures answered_but_for_dockets { letter ≢ 68 → result ≡ Ok tt }
+    ensures answered_where_no_case { docket_case body.now ≡ None → result ≡ Ok tt }
     ensures refused { has_refused heap.new ≡ (is_err result || has_refused heap.old) }
 {
     match letter {

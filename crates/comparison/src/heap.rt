@@ -1,4 +1,4 @@
-// The heap, and whether it has refused memory that it was asked for.
+// Memory from the heap, for the calls of a case.
 ghost use Rattle.std.specs.Prelude.{◌≡◌, ◌/◌, false, ◌||◌, [], ◌∷◌, ◌++◌, length, replicate, is_ok, is_err, IfOk, if◌then◌else◌};
 ghost use Rattle.frame.specs.Orders.{numbers_of};
 

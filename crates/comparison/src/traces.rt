@@ -54,8 +54,8 @@ fn text_words(printed: &str, text: &mut Text)
     ]);
 }
 
-// The answer to a case of a trace: how long what is printed of it is, its hash and its last line. All of it fits the memory,
-// and is text, so that nothing stands for it.
+// The answer to a case of a trace: how long what is printed of it is, its hash and its last line. Every
+// report fits the memory and is valid text, so that neither of the two empty texts below is ever taken.
 pub(crate) fn trace_answer(body: &[u8], text: &mut Text)
     ensures { content text.new ≡ with_words (words_of_text (report_on body.now).text) (content text.old) }
 {

@@ -20,7 +20,7 @@ fn examine(rt: &HostRuntime) -> anyhow::Result<bool> {
     let mut text = Text::new(&mut memory);
     let granted = report_trace(bytes.as_slice(), &mut text);
     let report = text.whole().ok_or_else(|| anyhow!(
-        "the report has more bytes than any report can have: nothing is printed of it"
+        "the report does not fit the memory that is lent for it: nothing is printed of it"
     ))?;
     let mut out = rt.stdout();
     out.write_all(report).and_then(|_| out.flush()).context(

@@ -41,6 +41,6 @@ with_text text memory = take (length memory) text ++ drop (length text) memory
 abbrev pub length_within : List ℕ → List ℕ → ℕ
 length_within text memory = cond (nat_le (length text) (length memory)) (length text) 0
 
--- the text is over the front of the memory that was given, and its length is answered
+-- the text is over the front of the memory that was given, as far as it fits, and its length is answered, or 0 where it does not fit
 abbrev pub Written : List ℕ → List ℕ → ℕ → List ℕ → Type 0
 Written text before n after = (n ≡ length_within text before) × (after ≡ with_text text before)

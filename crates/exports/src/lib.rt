@@ -1,14 +1,14 @@
 // What callers in Rust and C can link: bytes in memory, examined.
 #![tactic(auto)]
 
-ghost use Rattle.std.specs.Prelude.{◌≡◌, ◌≢◌, ◌<◌, ◌≤◌, ◌⊎◌, false, length};
+ghost use Rattle.std.specs.Prelude.{◌≡◌, ◌≢◌, ◌<◌, ◌≤◌, ◌⊎◌, false, None, length};
 ghost use Rattle.std.specs.Option.{option_map, unwrap_or};
 ghost use Rattle.calls.specs.Rules.{is_too_short};
 ghost use Rattle.docket.specs.Buffers.{buffers_of};
 ghost use Rattle.examination.specs.Traces.{examination_of, TrueTraceOfEither, count_of, CertifiedOfEither};
 ghost use Rattle.report.specs.Reports.{report_on};
 ghost use Rattle.text.specs.Contents.{content, all_said};
-ghost use Rattle.comparison.specs.Cases.{case_answer};
+ghost use Rattle.comparison.specs.Cases.{docket_case, case_answer};
 ghost use Rattle.exports.specs.Plain.{number_of_layer, plain, certificate_in, Written};
 
 use calls::certificate::Certificate;
@@ -78,7 +78,7 @@ impl From<Result<Certificate, Refusal>> for PlainOutcome {
     }
 }
 
-// How long all is that was said, or 0 where something of it did not fit.
+// The length of a text that is whole, or 0 of one that is not.
 // Kept (C interface): a caller in C reads one number, so none is 0 here.
 fn length_of(text: &Text) -> usize
     ensures { result ≡ unwrap_or (option_map length (all_said (content text.now))) 0 }
@@ -128,6 +128,7 @@ pub extern "C" fn examiner_report(bytes: &[u8], memory: &mut [u8]) -> usize
 #[unsafe(no_mangle)]
 pub extern "C" fn examiner_answer(heap: Global, letter: u8, body: &[u8], memory: &mut [u8]) -> usize
     ensures written_but_for_dockets { letter ≢ 68 → Written (case_answer letter body.now) memory.old result memory.new }
+    ensures written_where_no_case { docket_case body.now ≡ None → Written (case_answer letter body.now) memory.old result memory.new }
     ensures none_where_too_long { letter ≢ 68 → result ≡ 0 → length memory.old < length (case_answer letter body.now) }
     ensures written_or_wanting { Written (case_answer letter body.now) memory.old result memory.new ⊎ ((result ≡ 0) × (memory.new ≡ memory.old)) }
 {

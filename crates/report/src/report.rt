@@ -22,7 +22,8 @@ use sheet::sheet::Sheet;
 use text::text::Text;
 use trace::read::{Accepted, read};
 
-// How many bytes a report has at most: 1,024 lines of a step, 100 bytes each, as many of an add, 47 each, and one of 111.
+// How many bytes a report has at most: 1,024 lines of a step, at most 100 bytes each with numbers of 20 digits, as many of an
+// add, at most 47 each, and one of at most 111.
 pub const LONGEST: usize = 150_639;
 
 // Says of an accepted trace, whose operations are on the sheet, and answers whether a certificate is granted.

@@ -1,10 +1,8 @@
 // What is said of an order: a certificate, or the first rule that is broken.
-ghost use Rattle.std.specs.Prelude.{◌≡◌, ◌≤◌, true, length, Result};
+ghost use Rattle.std.specs.Prelude.{◌≡◌, ◌≤◌, length, Result};
 ghost use Rattle.sheet.specs.Sheets.{entered};
-ghost use Rattle.order.specs.Orders.{TrueOrder};
 ghost use Rattle.frame.specs.Kinds.{kind_number};
 ghost use Rattle.docket.specs.Buffers.{held};
-ghost use Rattle.docket.specs.Pairs.{paired_all};
 ghost use Rattle.examination.specs.Kinds.{seat_of};
 ghost use Rattle.text.specs.Contents.{content, with_words};
 ghost use Rattle.report.specs.Reports.{verdict_of_order, granting, answering};
@@ -66,8 +64,8 @@ fn say_answer<I: Item>(
     }
 }
 
-// Says of an order by the strict object of that kind, and answers whether a certificate is granted: exactly when it is a true
-// order; and else the first rule that it breaks is said.
+// Says of an order by the strict object of that kind its certificate or the first rule that it breaks, and answers whether a
+// certificate is granted.
 pub(crate) fn say_verdict<I: Item>(
     sheet: &Sheet<I>,
     kind: Kind,

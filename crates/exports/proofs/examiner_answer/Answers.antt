@@ -18,6 +18,7 @@ returns-in-Ok c =
     let long = length_over ws m _ after said c.length_of.result c.length_of.ensures in
     record {
       written_but_for_dockets = (λ other. over (search (rules, lender)));
+      written_where_no_case = (λ none. over (search (rules, lender)));
       none_where_too_long = (λ other z. none_where_too_long ws m c.length_of.result (answer_not_empty c.args.letter c.args.body.now) long z);
       written_or_wanting = inl (over (search (rules, lender)));
     }
@@ -30,6 +31,7 @@ returns-in-Err c =
     let same : after.memory.now ≡ c.args.memory.now = sym (take-append-drop after.written after.memory.now) ∙ ap (λ (x : Content). x.bytes ++ x.free) said in
     record {
       written_but_for_dockets = (λ other. let never = c.in-Err.ensures.answered_but_for_dockets other in absurd (cc));
+      written_where_no_case = (λ none. let never = c.in-Err.ensures.answered_where_no_case none in absurd (cc));
       none_where_too_long = (λ other z. let never = c.in-Err.ensures.answered_but_for_dockets other in absurd (cc));
       written_or_wanting = inr (refl, ◌∙◌ {b = c.answer_case.new.text.memory.now} (search (rules, lender)) same);
     }
