@@ -1,6 +1,9 @@
 -- The records of a trace, each by its number.
-use Rattle.std.proofs.Common.{◌≡◌, ℕ, zero, suc, ◌+◌, ◌*◌, ◌/◌, ◌<◌, ◌≤◌, List, ◌∷◌, length, get_or, take, drop, refl, sym, ap, ◌∙◌, mul-zero, mul-suc, arith, length-drop}
+use Rattle.std.proofs.Common.{◌≡◌, ℕ, zero, suc, ◌+◌, ◌*◌, ◌/◌, ◌<◌, ◌≤◌, List, [], ◌∷◌, length, get_or, take, drop, if◌then◌else◌, nat_lt, Some, None, refl, sym, ap, ◌∙◌, mul-zero, mul-suc, arith, length-drop}
+use Rattle.std.proofs.lemmas.Bool.{cond_both, ltb-true, ltb-false}
 use Rattle.std.proofs.lemmas.List.{drop-drop}
+use Rattle.std.proofs.lemmas.Option.{slice_get-get_or, slice_get_past}
+use Rattle.std.specs.List.{slice_get}
 use Rattle.std.specs.Simd.{first_chunks}
 use Rattle.frame.specs.Layout.{record_count, record_at, records_in}
 
@@ -30,3 +33,13 @@ chunk_at w (suc i) (suc n) xs d h =
 
 pub record_in_turn : (i : ℕ) (bs d : List ℕ) → i < record_count bs → get_or (records_in bs) i d ≡ record_at i bs
 record_in_turn i bs d h = chunk_at 24 i (record_count bs) (drop 8 bs) d h ∙ ap (take 24) (drop-drop (24 * i) 8 bs)
+
+-- by its number each record is the part at its place, and there is none past the last
+pub record_by_number : (i : ℕ) (bs : List ℕ) → slice_get (records_in bs) i ≡ (if nat_lt i (record_count bs) then Some (record_at i bs) else None)
+record_by_number i bs =
+    cond_both (nat_lt i (record_count bs)) (Some (record_at i bs)) None (λ r. slice_get (records_in bs) i ≡ r)
+    (λ h.
+    let below = ltb-true i (record_count bs) h in
+    let here : i < length (records_in bs) = omega (arith, below, length_records bs) in
+    slice_get-get_or (records_in bs) i [] here ∙ ap Some (record_in_turn i bs [] below))
+    (λ h. let past = ltb-false i (record_count bs) h in slice_get_past (records_in bs) i (omega (arith, past, length_records bs)))

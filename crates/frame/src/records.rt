@@ -1,5 +1,6 @@
 // The header, the records and the order among the bytes of a trace.
-ghost use Rattle.std.specs.Prelude.{◌≡◌, if◌then◌else◌, Some, None, nat_lt};
+ghost use Rattle.std.specs.Prelude.{◌≡◌, ℕ, if◌then◌else◌, Some, None, nat_lt};
+ghost use Rattle.std.specs.List.{slice_get};
 ghost use Rattle.std.specs.Option.{option_map};
 ghost use Rattle.frame.specs.Layout.{record_count, record_at, records_in};
 
@@ -26,9 +27,10 @@ impl<'a> Trace<'a> {
         self.bytes.len().saturating_sub(HEADER_LEN) / OPERATION_LEN
     }
 
-    // The bytes of each record in turn, a part of the trace.
+    // The bytes of each record in turn, a part of the trace: at each place those that `record` gives, and none past the last.
     pub fn records(&self) -> &'a [[u8; RECORD_LEN]]
-        ensures { result.now ≡ records_in self.now.bytes.now }
+        ensures in_turn { result.now ≡ records_in self.now.bytes.now }
+        ensures by_number { (i : ℕ) → slice_get result.now i ≡ (if nat_lt i (record_count self.now.bytes.now) then Some (record_at i self.now.bytes.now) else None) }
     {
         let body = &self.bytes[self.bytes.len().min(HEADER_LEN)..];
         &body.as_chunks().0[..self.count()]

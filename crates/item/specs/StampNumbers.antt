@@ -1,11 +1,11 @@
 -- A stamp and its number determine one another.
-use Rattle.std.specs.Prelude.{◌≡◌, ℕ, zero, suc, ◌+◌, ◌*◌, ◌/◌, ◌%◌, ◌^◌, ◌<◌, Ok}
+use Rattle.std.specs.Prelude.{◌≡◌, ℕ, zero, suc, ◌+◌, ◌*◌, ◌/◌, ◌%◌, ◌^◌, ◌<◌, false, Ok, nat_lt}
 use Rattle.std.proofs.Common.{ap, ◌∙◌, arith}
 use Rattle.std.proofs.lemmas.Bool.Decides.{nat_tests}
 use Rattle.item.specs.declared.stamp.Stamp.{Stamp}
 use Rattle.item.specs.declared.stamp.Stamp.TheVariants.{Serial, InLane}
 use Rattle.item.specs.declared.lane.Lane.{Lane}
-use Rattle.item.specs.Lanes.{lane_number, lane_of}
+use Rattle.item.specs.Lanes.{lane_number, lane_of, lane_named}
 use Rattle.item.specs.Stamps.{stamp_number, StampFits, stamp_of, stamp_named}
 use Rattle.item.specs.LaneBits.{number_of_lane, number_small, lane_of_number}
 
@@ -44,3 +44,12 @@ stamp_back n x e =
     let p = of_parts (n / 2 ^ 38) (n / 2 ^ 32 % 64) (n % 2 ^ 32) x (omega arith) (omega arith) e in
     let q = p.0 in
     (omega arith, p.1)
+
+-- case 1, with the lane that its six bits name
+pub in_lane : (case lane rest : ℕ) (l : Lane) → case ≡ 1 → lane < 64 → Ok l ≡ lane_named lane → Ok (InLane l rest) ≡ stamp_of case lane rest
+in_lane zero lane rest l p h e = absurd (omega arith)
+in_lane (suc zero) lane rest l p h e =
+    let b : nat_lt 63 lane ≡ false = grind (arith, nat_tests) in
+    let m : l ≡ lane_of lane = let f = rw b at e in cc in
+    ap (λ z. Ok (InLane z rest)) m
+in_lane (suc (suc case)) lane rest l p h e = absurd (omega arith)

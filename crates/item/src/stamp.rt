@@ -42,6 +42,7 @@ impl Item for Stamp {
         }
     }
 
+    #[tactic(auto, using(crate::specs::StampNumbers::in_lane))]
     fn unpack(n: u64) -> Result<Stamp, ItemFault> {
         let lane = (n / 0x1_0000_0000 % 64) as u8;
         let rest = (n % 0x1_0000_0000) as u32;

@@ -15,7 +15,7 @@ loop-place-init g c = record { taken = ap (λ os. going os) (sym c.requires.empt
 
 pub overflow_cast-place : goal.overflow_cast-place
 overflow_cast-place g c =
-    let l = ap length c.records-rec-items.ensures ∙ length_records c.args.trace.now.bytes.now in
+    let l = ap length c.records-rec-items.ensures.in_turn ∙ length_records c.args.trace.now.bytes.now in
     omega (arith, c.requires.few)
 
 pub returns-in_err-map_err : goal.returns-in_err-map_err
@@ -29,7 +29,7 @@ returns-in_err-map_err g c =
     rw (p.1, p.2) (record {
       taken =
           one_refused g.I.Item (room c.args.sheet.now) c.args.trace.now.bytes.now c.loop-place.place (room s) c.records-rec-items.result.now (entered s) (entered fin)
-          c.take_record.result c.records-rec-items.ensures c.loop-place-test.true v.taken v.loan.room e.step c.in_err-map_err.field-0.0 (sym q ∙ c.in_err-map_err.was);
+          c.take_record.result c.records-rec-items.ensures.in_turn c.loop-place-test.true v.taken v.loan.room e.step c.in_err-map_err.field-0.0 (sym q ∙ c.in_err-map_err.was);
       loan = loan_twice c.args.sheet.now s fin v.loan e.loan e.grows;
     })
 
@@ -43,7 +43,7 @@ loop-place-preserved g c =
     record {
       taken =
           one_taken g.I.Item (room c.args.sheet.now) c.args.trace.now.bytes.now c.loop-place.place (room s) c.records-rec-items.result.now (entered s) (entered fin)
-          c.take_record.result c.records-rec-items.ensures c.loop-place-test.true v.taken v.loan.room e.step
+          c.take_record.result c.records-rec-items.ensures.in_turn c.loop-place-test.true v.taken v.loan.room e.step
           ∙ ap (λ r. left_after r (entered fin)) (sym q ∙ c.in_ok-map_err.was);
       loan = loan_twice c.args.sheet.now s fin v.loan e.loan e.grows;
     }
@@ -52,6 +52,6 @@ pub returns : goal.returns
 returns g c =
     let bs = c.args.trace.now.bytes.now in
     let v = c.loop-place.invariant in
-    let l = ap length c.records-rec-items.ensures ∙ length_records bs in
+    let l = ap length c.records-rec-items.ensures.in_turn ∙ length_records bs in
     let e : record_count c.args.trace.now.bytes.now ≡ c.loop-place.place = omega arith in
     record { taken = ap (records_taken g.I.Item (room c.args.sheet.now) bs) e ∙ v.taken; loan = v.loan }
