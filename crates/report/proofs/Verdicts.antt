@@ -13,6 +13,7 @@ use Rattle.order.specs.Times.{earliest}
 use Rattle.order.specs.Orders.{TrueOrder}
 use Rattle.order.proofs.Growing.{length_ranks}
 use Rattle.order.proofs.Earliest.{length_earliest}
+use Rattle.order.proofs.Whole.{placed_of_true}
 use Rattle.calls.specs.declared.fault.DocketFault.{DocketFault}
 use Rattle.calls.specs.declared.fault.DocketFault.TheVariants.{BufferTooShort}
 use Rattle.calls.specs.declared.certificate.Certificate.{Certificate}
@@ -23,6 +24,7 @@ use Rattle.calls.proofs.Grants.{false_short}
 use Rattle.docket.specs.Pairs.{paired_all, paired_of}
 use Rattle.examination.specs.Orders.{unless_stopped, refused_as, order_answer, order_written}
 use Rattle.examination.proofs.Grants as order
+use Rattle.examination.proofs.Grants.{granted_is_true}
 use Rattle.report.specs.Lines.{up_to, step_at, line_of_step, lines_of_steps, late_of, late_at, lines_of_lates, line_of_certified}
 use Rattle.report.specs.Reports.{Verdict, granting, answering, whole, stopping, verdict_of_order}
 
@@ -105,3 +107,9 @@ module _ {I : Type 0} (t : Ghosts I) (seat : SeatRule) (os : List (Operation I))
       let g : v.granted ≡ is_ok (order_answer seat (paired_all t.number os) k p blank) =
       ap (λ (z : Verdict). z.granted) (e ∙ sym said) ∙ granted_as a w in
       (λ h. exactly.0 (sym g ∙ h), λ o. g ∙ exactly.1 o)
+
+-- an order to which a certificate is granted has as many steps as there are operations
+module _ {I : Type 0} (t : Ghosts I) (seat : SeatRule) (os : List (Operation I)) (k : ℕ) (p : List ℕ) (b : Buffers) where
+  pub few_where_granted : (a : Result Certificate Refusal) → a ≡ order_answer seat (paired_all t.number os) k p b → is_ok a ≡ true → length p ≡ length os
+  few_where_granted a e ok =
+      (placed_of_true seat (paired_all t.number os) k p (granted_is_true seat (paired_all t.number os) k p b (sym (ap is_ok e) ∙ ok))).1 ∙ length-map os (paired_of t.number os)

@@ -1,8 +1,8 @@
 // From the bytes of a trace to the text that is printed of it, in memory that a caller lends.
 #![tactic(auto)]
 
-mod line;
+pub mod line;
 mod lines;
 pub mod refused;
 pub mod report;
-mod verdict;
+pub mod verdict;

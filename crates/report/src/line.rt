@@ -9,30 +9,30 @@ use text::text::Text;
 
 // The line of a step: its operation, its rank error and its instant.
 #[derive(Clone, Copy, PartialEq, Eq, Debug)]
-pub(crate) struct StepLine {
-    pub(crate) step: usize,
-    pub(crate) operation: u16,
-    pub(crate) rank: u16,
-    pub(crate) at: u64,
+pub struct StepLine {
+    pub step: usize,
+    pub operation: u16,
+    pub rank: u16,
+    pub at: u64,
 }
 
 // The line of an add and its lateness.
 #[derive(Clone, Copy, PartialEq, Eq, Debug)]
-pub(crate) struct LateLine {
-    pub(crate) number: usize,
-    pub(crate) late: u16,
+pub struct LateLine {
+    pub number: usize,
+    pub late: u16,
 }
 
 // The line that grants a certificate.
 #[derive(Clone, Copy, PartialEq, Eq, Debug)]
-pub(crate) struct CertifiedLine {
-    pub(crate) k: u16,
-    pub(crate) certificate: Certificate,
+pub struct CertifiedLine {
+    pub k: u16,
+    pub certificate: Certificate,
 }
 
 impl StepLine {
     #[tactic(auto, unfolding(crate::specs::Lines::line_of_step))]
-    pub(crate) fn say(&self, text: &mut Text)
+    pub fn say(&self, text: &mut Text)
         ensures { content text.new ≡ with_words (line_of_step self.now.step self.now.operation self.now.rank self.now.at) (content text.old) }
     {
         text.say(&[
@@ -51,7 +51,7 @@ impl StepLine {
 
 impl LateLine {
     #[tactic(auto, unfolding(crate::specs::Lines::line_of_late))]
-    pub(crate) fn say(&self, text: &mut Text)
+    pub fn say(&self, text: &mut Text)
         ensures { content text.new ≡ with_words (line_of_late self.now.number self.now.late) (content text.old) }
     {
         text.say(&[
@@ -65,7 +65,7 @@ impl LateLine {
 }
 
 impl CertifiedLine {
-    pub(crate) fn say(&self, text: &mut Text)
+    pub fn say(&self, text: &mut Text)
         ensures said { content text.new ≡ with_words (line_of_certified self.now.k self.now.certificate) (content text.old) }
         ensures short { length (line_of_certified self.now.k self.now.certificate) ≤ 111 }
     {

@@ -26,7 +26,7 @@ pub fn say_refusal(refusal: Refusal, text: &mut Text)
 }
 
 // Says the one line of a refusal.
-pub(crate) fn say_refused(refusal: Refusal, text: &mut Text)
+pub fn say_refused(refusal: Refusal, text: &mut Text)
     ensures said { content text.new ≡ with_words (refusing refusal).text (content text.old) }
     ensures short { length (refusing refusal).text ≤ 91 }
 {
