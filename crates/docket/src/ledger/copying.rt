@@ -15,7 +15,6 @@ use item::item::Item;
 use order::operation::{Deed, Paired};
 use sheet::operation::{Method, Operation};
 use sheet::sheet::Sheet;
-use std::array;
 
 // The operation of that number, paired.
 pub(crate) fn paired<I: Item>(sheet: &Sheet<I>, number: usize, operation: &Operation<I>) -> Paired
@@ -38,23 +37,6 @@ pub(crate) fn paired<I: Item>(sheet: &Sheet<I>, number: usize, operation: &Opera
     }
 }
 
-// The entry of the operation of that number, before any step. Past the operations it is that of no operation.
-fn entry_at<I: Item>(sheet: &Sheet<I>, number: usize) -> Entry
-    ensures { result ≡ fresh (slice_index_or (paired_all I.Item.number (entered sheet.now)) number no_operation) }
-{
-    let operation = match sheet.all().get(number) {
-        Some(operation) => paired(sheet, number, operation),
-        // Kept (no plainer): a `Default` of `Paired` would say that an operation is an add by itself.
-        None => Paired {
-            deed: Deed::Add,
-            thread: 0,
-            start: 0,
-            end: 0,
-        },
-    };
-    Entry::from(operation)
-}
-
 // A ledger of the operations of the sheet, with no step placed.
 pub(crate) fn copied<I: Item>(sheet: &Sheet<I>, k: u16) -> Ledger
     ensures table { ops_of result ≡ paired_all I.Item.number (entered sheet.now) }
@@ -63,8 +45,19 @@ pub(crate) fn copied<I: Item>(sheet: &Sheet<I>, k: u16) -> Ledger
     ensures placed { result.placed ≡ 0 }
     ensures bound { result.k ≡ k }
 {
-    let entries: [Entry; 1024] = array::from_fn(|number| entry_at(sheet, number));
-    let count = sheet.count();
+    // Kept (no plainer): a `Default` of `Paired` would say that an operation is an add by itself.
+    let none = Entry::from(Paired {
+        deed: Deed::Add,
+        thread: 0,
+        start: 0,
+        end: 0,
+    });
+    let mut entries = [none; 1024];
+    let operations = sheet.all();
+    for (number, operation) in operations.iter().enumerate() {
+        entries[number] = Entry::from(paired(sheet, number, operation));
+    }
+    let count = operations.len();
     let awaited = Awaited::of(&entries[..count]);
     Ledger {
         entries,
