@@ -1,5 +1,5 @@
 -- The ends of the operations that are not placed. Assumes nothing.
-use Rattle.std.proofs.Common.{◌≡◌, ℕ, zero, suc, ◌+◌, ◌*◌, ◌/◌, ◌<◌, ◌≤◌, min, Bool, true, false, not, ◌&&◌, ltb, List, length, get_or, set, take, Some, None, sym, refl, ap, ◌∙◌, ⊎_elim, arith}
+use Rattle.std.proofs.Common.{◌≡◌, ℕ, zero, suc, ◌+◌, ◌-◌, ◌*◌, ◌/◌, ◌^◌, ◌<◌, ◌≤◌, min, Bool, true, false, not, ◌&&◌, ltb, List, length, get_or, set, take, Some, None, sym, refl, ap, ◌∙◌, ⊎_elim, arith}
 use Rattle.std.proofs.lemmas.List.{get_or-take, get_or-set_same, get_or-set_other, length-take-le}
 use Rattle.std.proofs.lemmas.Bool.{cases_eq, cases_Bool, lt-ltb, le-ltb, cond-true, cond-false}
 use Rattle.std.proofs.lemmas.Bool.Decides.{nat_tests}
@@ -33,6 +33,10 @@ module _ (ts : List ℕ) (p v : ℕ) where
       let left = get_or-set_other ts p (2 * q) v 0 (λ z. above (omega arith)) in
       let right = get_or-set_other ts p (2 * q + 1) v 0 (λ z. above (omega arith)) in
       omega (arith, own, left, right, was)
+
+-- where the three are as they were
+pub kept_at : (ts us : List ℕ) (q : ℕ) → get_or us q 0 ≡ get_or ts q 0 → get_or us (2 * q) 0 ≡ get_or ts (2 * q) 0 → get_or us (2 * q + 1) 0 ≡ get_or ts (2 * q + 1) 0 → LesserAt ts q → LesserAt us q
+kept_at ts us q own left right was = omega (arith, own, left, right, was)
 
 -- the soonest stands at 1
 soonest_from : (ts : List ℕ) → Lesser ts → (n i : ℕ) → i ≤ n → 1 ≤ i → i < 2048 → get_or ts 1 0 ≤ get_or ts i 0
@@ -80,6 +84,14 @@ pub awaits_all : (ts : List ℕ) (n : ℕ) (es : List Entry) → n ≤ length es
     → ((x : ℕ) → x < 1024 → end_at ts x ≡ end_if (ltb x (length (take n es))) (entry_of (take n es) x)) → Awaits ts n es
 awaits_all ts n es few none was = λ x h.
     grind (arith, nat_tests, was x h, none x, length-take-le n es few, get_or-take n es x blank)
+
+-- what stands past the operations of a table
+pub past_ends : (ts : List ℕ) (es : List Entry) → ((x : ℕ) → x < 1024 → end_at ts x ≡ end_if (ltb x (length es)) (entry_of es x))
+    → (q : ℕ) → 1024 + length es ≤ q → q < 2048 → get_or ts q 0 ≡ 2 ^ 64 - 1
+past_ends ts es was q low high =
+    let x = q - 1024 in
+    let at : q ≡ 1024 + x = omega arith in
+    ap (λ (k : ℕ). get_or ts k 0) at ∙ was x (omega arith) ∙ cond-false (ltb x (length es)) _ _ (le-ltb x (length es) (omega arith))
 
 -- a flag set at the operation x, and what then stands for it
 pub awaits_flag : (b : Bool) (ts us : List ℕ) (n x : ℕ) (es : List Entry) → x < n → n ≤ length es

@@ -57,16 +57,38 @@ fn with_ends(table: &[Entry]) -> [u64; 2048]
     least
 }
 
+// Writes the lesser of the two instants below it at each place from `first` to before `past`, from the last on.
+fn write_level(least: &mut [u64; 2048], first: usize, past: usize)
+    requires long { length least.old ≡ 2048 }
+    requires within { past ≤ 1024 }
+    requires above { 1 ≤ first }
+    requires ordered { first ≤ past }
+    ensures long { length least.new ≡ 2048 }
+    ensures lesser { (p : ℕ) → first ≤ p → p < past → slice_index least.new p ≡ min (slice_index least.new (2 * p)) (slice_index least.new (2 * p + 1)) }
+    ensures before { (p : ℕ) → p < first → slice_index least.new p ≡ slice_index least.old p }
+    ensures after { (p : ℕ) → past ≤ p → slice_index least.new p ≡ slice_index least.old p }
+{
+    for place in (first..past).rev() {
+        least[place] = lesser_below(least, place);
+    }
+}
+
 impl Awaited {
-    // The ends of the operations of the table, and past it the last instant of all.
+    // The ends of the operations of the table, and past it the last instant of all. On each level of the tree only the
+    // places above operations are written, since at the others stands the last instant of all already.
     pub(crate) fn of(table: &[Entry]) -> Awaited
         requires { length table.now ≤ 1024 }
         ensures ends { (x : ℕ) → x < 1024 → end_at result.least x ≡ end_if (nat_lt x (length table.now)) (entry_of table.now x) }
         ensures unused { slice_index result.least 0 ≡ 2 ^ 64 - 1 }
     {
         let mut least = with_ends(table);
-        for place in (1..1024).rev() {
-            least[place] = lesser_below(&least, place);
+        let mut first = 1024;
+        let mut past = 1024 + table.len();
+        // Kept (no plainer): it goes by halves, as no range does; successors and take_while say it in more.
+        while first > 1 {
+            first /= 2;
+            past = past.div_ceil(2);
+            write_level(&mut least, first, past);
         }
         Awaited { least }
     }

@@ -38,6 +38,7 @@ pub(crate) fn paired<I: Item>(sheet: &Sheet<I>, number: usize, operation: &Opera
 }
 
 // A ledger of the operations of the sheet, with no step placed.
+#[inline(always)]
 pub(crate) fn copied<I: Item>(sheet: &Sheet<I>, k: u16) -> Ledger
     ensures table { ops_of result ≡ paired_all I.Item.number (entered sheet.now) }
     ensures entries { (x : ℕ) → entry_of result.entries x ≡ fresh (slice_index_or (paired_all I.Item.number (entered sheet.now)) x no_operation) }

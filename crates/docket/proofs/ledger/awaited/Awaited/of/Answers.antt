@@ -1,24 +1,53 @@
-use Rattle.std.proofs.Common.{◌≡◌, ◌+◌, ◌-◌, ◌∙◌, ⊎_elim, arith, length-set}
-use Rattle.std.proofs.lemmas.Bool.{cases_eq}
-use Rattle.std.proofs.lemmas.List.{get_or-set_other}
-use Rattle.docket.proofs.Awaiting.{put_here, put_there}
+use Rattle.std.proofs.Common.{◌+◌, ◌*◌, ◌/◌, ◌<◌, ◌≤◌, ◌∙◌, ⊎_elim, arith}
+use Rattle.std.proofs.lemmas.Bool.{cases_lt}
+use Rattle.docket.proofs.Awaiting.{kept_at, past_ends}
 use Rattle.docket.proofs.ledger.awaited.Awaited.of.Goals as goal
 
-pub loop-place-preserved : goal.loop-place-preserved
-loop-place-preserved c =
-    let ts = c.loop-place.least in
-    let was = c.loop-place.invariant in
-    let p = c.loop-place.place - 1 in
-    let v = c.lesser_below.result in (
-      length-set ts p v ∙ was.0,
-      λ q low pos high.
+pub loop-first-init : goal.loop-first-init
+loop-first-init c =
+    let made = c.with_ends-least.ensures in (
+      made.long,
+      omega arith,
+      omega arith,
+      omega arith,
+      omega (arith, c.requires),
+      λ q low high. absurd (omega arith),
+      made.below,
+      λ q low high. past_ends c.with_ends-least.result c.args.table.now made.ends q low high,
+      made.ends,
+    )
+
+pub loop-first-preserved : goal.loop-first-preserved
+loop-first-preserved c =
+    let ts = c.loop-first.least in
+    let us = c.write_level.new.least in
+    let lo = c.loop-first.first in
+    let hi = c.loop-first.past in
+    let up = c.div_ceil-past.result in
+    let was = c.loop-first.invariant in
+    let e = c.write_level.ensures in (
+      e.long,
+      omega arith,
+      omega arith,
+      omega arith,
+      omega arith,
+      λ q low high.
           ⊎_elim
-          (λ (e : q ≡ p). put_here ts p v (omega arith) (omega (arith, was.0)) c.lesser_below.ensures q e)
-          (λ (e : q ≡ p → ⊥). put_there ts p v q e (λ z. omega (arith, e)) pos (was.1 q (omega (arith, e)) pos high))
-          (cases_eq q p),
-      λ x h. get_or-set_other ts p (1024 + x) v 0 (λ z. omega arith) ∙ was.2 x h,
-      get_or-set_other ts p 0 v 0 (λ z. omega arith) ∙ was.3,
+          (λ (h : q < up). e.lesser q low h)
+          (λ (h : up ≤ q).
+          kept_at ts us q (e.after q h) (e.after (2 * q) (omega arith)) (e.after (2 * q + 1) (omega arith))
+          (⊎_elim
+          (λ (l : q < lo). omega (arith, was.6 q l, was.7 (2 * q) (omega arith) (omega arith), was.7 (2 * q + 1) (omega arith) (omega arith)))
+          (λ (l : lo ≤ q). was.5 q l high)
+          (cases_lt q lo)))
+          (cases_lt q up),
+      λ q h. e.before q h ∙ was.6 q (omega arith),
+      λ q low high. e.after q low ∙ was.6 q (omega arith),
+      λ x h. e.after (1024 + x) (omega arith) ∙ was.8 x h,
     )
 
 pub invariant_of-result : goal.invariant_of-result
-invariant_of-result c = record { long = c.loop-place.invariant.0; lesser = λ p pos high. c.loop-place.invariant.1 p (omega arith) pos high }
+invariant_of-result c = record { long = c.loop-first.invariant.0; lesser = λ p pos high. c.loop-first.invariant.5 p (omega arith) high }
+
+pub returns : goal.returns
+returns c = record { ends = c.loop-first.invariant.8; unused = c.loop-first.invariant.6 0 (omega arith) }
