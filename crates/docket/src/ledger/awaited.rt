@@ -43,18 +43,18 @@ fn write_upward(least: &mut [u64; 2048], number: usize, end: u64)
     }
 }
 
-// The ends of the operations of the table at their places, and elsewhere the last instant of all.
-fn with_ends(table: &[Entry]) -> [u64; 2048]
-    requires { length table.now ≤ 1024 }
-    ensures long { length result ≡ 2048 }
-    ensures ends { (x : ℕ) → x < 1024 → end_at result x ≡ end_if (nat_lt x (length table.now)) (entry_of table.now x) }
-    ensures below { (p : ℕ) → p < 1024 → slice_index result p ≡ 2 ^ 64 - 1 }
+// Writes the ends of the operations of the table at their places, where the last instant of all stands everywhere.
+fn write_ends(least: &mut [u64; 2048], table: &[Entry])
+    requires long { length least.old ≡ 2048 }
+    requires few { length table.now ≤ 1024 }
+    requires last { (p : ℕ) → p < 2048 → slice_index least.old p ≡ 2 ^ 64 - 1 }
+    ensures long { length least.new ≡ 2048 }
+    ensures ends { (x : ℕ) → x < 1024 → end_at least.new x ≡ end_if (nat_lt x (length table.now)) (entry_of table.now x) }
+    ensures below { (p : ℕ) → p < 1024 → slice_index least.new p ≡ 2 ^ 64 - 1 }
 {
-    let mut least = [u64::MAX; 2048];
     for (number, entry) in table.iter().enumerate() {
         least[1024 + number] = entry.paired.end;
     }
-    least
 }
 
 // Writes the lesser of the two instants below it at each place from `first` to before `past`, from the last on.
@@ -81,7 +81,8 @@ impl Awaited {
         ensures ends { (x : ℕ) → x < 1024 → end_at result.least x ≡ end_if (nat_lt x (length table.now)) (entry_of table.now x) }
         ensures unused { slice_index result.least 0 ≡ 2 ^ 64 - 1 }
     {
-        let mut least = with_ends(table);
+        let mut least = [u64::MAX; 2048];
+        write_ends(&mut least, table);
         let mut first = 1024;
         let mut past = 1024 + table.len();
         // Kept (no plainer): it goes by halves, as no range does; successors and take_while say it in more.

@@ -1,11 +1,15 @@
-use Rattle.std.proofs.Common.{◌+◌, ◌*◌, ◌/◌, ◌<◌, ◌≤◌, ◌∙◌, ⊎_elim, arith}
+use Rattle.std.proofs.Common.{◌+◌, ◌*◌, ◌<◌, ◌≤◌, ◌∙◌, ⊎_elim, arith}
 use Rattle.std.proofs.lemmas.Bool.{cases_lt}
+use Rattle.std.proofs.lemmas.List.{get_or-replicate}
 use Rattle.docket.proofs.Awaiting.{kept_at, past_ends}
 use Rattle.docket.proofs.ledger.awaited.Awaited.of.Goals as goal
 
+pub write_ends-requires-clause-last : goal.write_ends-requires-clause-last
+write_ends-requires-clause-last c = λ p h. get_or-replicate 2048 p _ 0 h
+
 pub loop-first-init : goal.loop-first-init
 loop-first-init c =
-    let made = c.with_ends-least.ensures in (
+    let made = c.write_ends.ensures in (
       made.long,
       omega arith,
       omega arith,
@@ -13,7 +17,7 @@ loop-first-init c =
       omega (arith, c.requires),
       λ q low high. absurd (omega arith),
       made.below,
-      λ q low high. past_ends c.with_ends-least.result c.args.table.now made.ends q low high,
+      λ q low high. past_ends c.write_ends.new.least c.args.table.now made.ends q low high,
       made.ends,
     )
 

@@ -1,6 +1,6 @@
 use Rattle.std.proofs.Common.{◌≡◌, ℕ, ◌-◌, ◌^◌, ◌<◌, ltb, length, get_or}
 use Rattle.docket.specs.Kept.{entry_of, end_at, end_if}
-use Rattle.docket.proofs.ledger.awaited.with_ends.Given as goal
+use Rattle.docket.proofs.ledger.awaited.write_ends.Given as goal
 
 abbrev pub invariant-loop-number : goal.invariant-loop-number
 invariant-loop-number l =

@@ -1,15 +1,15 @@
 use Rattle.std.proofs.Common.{◌+◌, arith, ◌∙◌, length-set}
 use Rattle.std.proofs.lemmas.Bool.{cond_above}
 use Rattle.std.proofs.lemmas.Bool.Decides.{nat_tests}
-use Rattle.std.proofs.lemmas.List.{get_or-replicate, get_or-set_same, get_or-set_other}
+use Rattle.std.proofs.lemmas.List.{get_or-set_same, get_or-set_other}
 use Rattle.docket.specs.Kept.{entry_of}
-use Rattle.docket.proofs.ledger.awaited.with_ends.Goals as goal
+use Rattle.docket.proofs.ledger.awaited.write_ends.Goals as goal
 
 pub loop-number-init : goal.loop-number-init
 loop-number-init c = (
-  omega arith,
-  λ x h. cond_above x 0 _ _ _ (omega arith) (get_or-replicate 2048 (1024 + x) _ 0 (omega arith)),
-  λ p h. get_or-replicate 2048 p _ 0 (omega arith),
+  c.requires.long,
+  λ x h. cond_above x 0 _ _ _ (omega arith) (c.requires.last (1024 + x) (omega arith)),
+  λ p h. c.requires.last p (omega arith),
 )
 
 pub loop-number-preserved : goal.loop-number-preserved
