@@ -1,4 +1,5 @@
 pub mod BlocksWithPosition
 pub mod Kept
 pub mod Held
+pub mod SlotNumbers
 pub mod Fronts

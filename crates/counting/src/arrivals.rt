@@ -6,6 +6,7 @@ ghost use Rattle.counting.specs.Blocks.{used_upto, BlockSums};
 ghost use Rattle.counting.specs.Slots.{codes};
 
 use crate::blocks::{Change, block_len};
+use crate::maybe::MaybeCode;
 use crate::slot::Slot;
 use holder::holder::ADD_BOUND;
 use std::mem::replace;
@@ -13,7 +14,7 @@ use std::mem::replace;
 // Kept (rule of the project): arrays of 1,024 in the struct, since a holder is fixed memory with no heap.
 #[derive(Drop)]
 pub struct Arrivals {
-    slots: [Option<u16>; 1024],
+    slots: [MaybeCode; 1024],
     sums: [u16; 1025],
     ghost slotted: { length slots ≡ 1024 },
     ghost summed: { length sums ≡ 1025 },
@@ -21,7 +22,7 @@ pub struct Arrivals {
 }
 
 // Writes the codes of the used slots over the front of the buffer, until it is full, and answers how many.
-fn write_codes(slots: &[Option<u16>], buffer: &mut [u16]) -> usize
+fn write_codes(slots: &[MaybeCode], buffer: &mut [u16]) -> usize
     ensures answer { result ≡ min (length (codes slots.now)) (length buffer.old) }
     ensures written { buffer.new ≡ front_over (codes slots.now) buffer.old }
 {
@@ -30,7 +31,7 @@ fn write_codes(slots: &[Option<u16>], buffer: &mut [u16]) -> usize
         if written == buffer.len() {
             break;
         }
-        if let Some(code) = *slot {
+        if let Some(code) = slot.get() {
             // Kept (proof): by index, since after a zip with `iter_mut` no fact says what an element is.
             buffer[written] = code;
             written += 1;
@@ -44,7 +45,7 @@ impl Arrivals {
         ensures { result.slots ≡ replicate 1024 None }
     {
         Arrivals {
-            slots: [None; 1024],
+            slots: [MaybeCode::none(); 1024],
             sums: [0; 1025],
         }
     }
@@ -52,17 +53,17 @@ impl Arrivals {
     pub(crate) fn get(&self, slot: Slot) -> Option<u16>
         ensures { result ≡ slice_index_or self.now.slots slot.number None }
     {
-        self.slots[slot.number as usize]
+        self.slots[slot.number as usize].get()
     }
 
-    pub(crate) fn put(&mut self, slot: Slot, code: Option<u16>)
+    pub(crate) fn put(&mut self, slot: Slot, code: MaybeCode)
         ensures { self.new.slots ≡ slice_set self.old.slots slot.number code }
     {
         let before = replace(&mut self.slots[slot.number as usize], code);
         let change = Change {
             slot,
-            before,
-            after: code,
+            before: before.get(),
+            after: code.get(),
         };
         change.apply(&mut self.sums);
     }
@@ -104,7 +105,7 @@ impl Arrivals {
     }
 
     // The slots from the first used one on.
-    fn from_first(&self) -> &[Option<u16>]
+    fn from_first(&self) -> &[MaybeCode]
         ensures { codes result.now ≡ codes self.now.slots }
     {
         let first = if self.used_before(ADD_BOUND) > 0 {
@@ -112,7 +113,8 @@ impl Arrivals {
         } else {
             ADD_BOUND
         };
-        &self.slots[first as usize..]
+        let slots = &self.slots[..];
+        &slots[first as usize..]
     }
 
     // Writes the first codes over the front of the buffer, as many as it has entries for, and answers how many.

@@ -5,5 +5,6 @@
 pub mod answers_as_queue;
 mod arrivals;
 mod blocks;
+mod maybe;
 pub mod queue;
 mod slot;

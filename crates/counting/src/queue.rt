@@ -6,6 +6,7 @@ ghost use Rattle.counting.specs.Codes.{codes_once, codes_below, codes_few};
 ghost use Rattle.std.proofs.Common.{rules};
 
 use crate::arrivals::Arrivals;
+use crate::maybe::{MaybeCode, MaybeSlot};
 use crate::slot::Slot;
 use holder::fault::HolderFault;
 use holder::holder::{ADD_BOUND, CODE_BOUND, Holder};
@@ -14,7 +15,7 @@ use holder::holder::{ADD_BOUND, CODE_BOUND, Holder};
 #[derive(Drop)]
 pub struct CountingQueue {
     arrivals: Arrivals,
-    positions: [Option<Slot>; 1024],
+    positions: [MaybeSlot; 1024],
     added: u16,
     ghost long: { length positions ≡ 1024 },
     ghost few: { added ≤ 1024 },
@@ -31,7 +32,7 @@ impl CountingQueue {
     {
         CountingQueue {
             arrivals: Arrivals::new(),
-            positions: [None; 1024],
+            positions: [MaybeSlot::none(); 1024],
             added: 0,
         }
     }
@@ -40,7 +41,7 @@ impl CountingQueue {
     fn position(&self, code: u16) -> Option<Slot>
         ensures { result ≡ slice_index_or self.now.positions code None }
     {
-        *self.positions.get(code as usize)?
+        self.positions.get(code as usize)?.get()
     }
 }
 
@@ -97,8 +98,8 @@ impl Holder for CountingQueue {
             return Err(HolderFault::AlreadyHeld);
         }
         let slot = Slot::new(self.added).ok_or(HolderFault::AddsUsedUp)?;
-        self.arrivals.put(slot, Some(code));
-        self.positions[code as usize] = Some(slot);
+        self.positions[code as usize] = MaybeSlot::some(slot);
+        self.arrivals.put(slot, MaybeCode::some(code));
         self.added += 1;
         Ok(())
     }
@@ -106,8 +107,8 @@ impl Holder for CountingQueue {
     #[tactic(auto, using(crate::proofs::Held::not_held, crate::proofs::Held::place_held, giving::proofs::Places::times_absent, giving::proofs::Places::without_absent))]
     fn take(&mut self, code: u16) -> Result<(), HolderFault> {
         let slot = self.position(code).ok_or(HolderFault::NotHeld)?;
-        self.arrivals.put(slot, None);
-        self.positions[code as usize] = None;
+        self.positions[code as usize] = MaybeSlot::none();
+        self.arrivals.put(slot, MaybeCode::none());
         Ok(())
     }
 }
