@@ -1,6 +1,7 @@
 // Cases of traces: examined, read twice, and written.
-ghost use Rattle.std.specs.Prelude.{◌≡◌, [], min, length, codes, is_ok};
+ghost use Rattle.std.specs.Prelude.{◌≡◌, ◌≤◌, [], min, length, codes, is_ok, nat_le, if◌then◌else◌};
 ghost use Rattle.sheet.specs.Sheets.{entered, room, SameLoan};
+ghost use Rattle.frame.specs.Orders.{order_of};
 ghost use Rattle.trace.specs.Answers.{read_answer, sheet_after, shown};
 ghost use Rattle.trace.specs.Reading.{reading};
 ghost use Rattle.report.specs.Reports.{report_on};
@@ -54,16 +55,34 @@ fn text_words(printed: &str, text: &mut Text)
     ]);
 }
 
-// The answer to a case of a trace: how long what is printed of it is, its hash and its last line. Every
-// report fits the memory and is valid text, so that neither of the two empty texts below is ever taken.
+// What is printed of a trace, told as a case of it is answered, where `N` bytes hold it; and whether they do. Every report is
+// valid text, so that the empty text below is never taken.
+fn report_words<const N: usize>(body: &[u8], text: &mut Text) -> bool
+    requires { N ≤ 150639 }
+    ensures fits { result ≡ nat_le (length (report_on body.now).text) N }
+    ensures short { length (report_on body.now).text ≤ 150639 }
+    ensures said { content text.new ≡ (if result then with_words (words_of_text (report_on body.now).text) (content text.old) else content text.old) }
+{
+    let mut memory = [0u8; N];
+    let mut report = Text::new(&mut memory);
+    report_trace(body, &mut report);
+    match report.whole() {
+        Some(printed) => {
+            text_words(str::from_utf8(printed).unwrap_or(""), text);
+            true
+        }
+        None => false,
+    }
+}
+
+// The answer to a case of a trace: how long what is printed of it is, its hash and its last line. A short trace has a short
+// report, which takes less time in less memory; every report fits the longest.
 pub(crate) fn trace_answer(body: &[u8], text: &mut Text)
     ensures { content text.new ≡ with_words (words_of_text (report_on body.now).text) (content text.old) }
 {
-    let mut memory = [0u8; LONGEST];
-    let mut report = Text::new(&mut memory);
-    report_trace(body, &mut report);
-    let printed = report.whole().unwrap_or(b"");
-    text_words(str::from_utf8(printed).unwrap_or(""), text);
+    if body.len() > 700 || !report_words::<4096>(body, text) {
+        report_words::<LONGEST>(body, text);
+    }
 }
 
 // The hash of the records of the operations on a sheet.
@@ -119,16 +138,31 @@ fn readings<I: Item>(records: &mut [Operation<I>], first: &[u8], second: &[u8], 
     reading_words(second, &mut sheet, text);
 }
 
-// The same with so many records, for the item type of the first trace.
-fn readings_by_type(room: u16, first: &[u8], second: &[u8], text: &mut Text)
+// The same with so many of `N` records, for the item type of the first trace.
+fn readings_by_type<const N: usize>(room: usize, first: &[u8], second: &[u8], text: &mut Text)
+    requires within { room ≤ N }
+    requires few { N ≤ 1024 }
+    ensures { content text.new ≡ with_words (words_of_two_readings room first.now second.now) (content text.old) }
+{
+    // Kept (no plainer): the item type is known at run time only, and a choice of calls is what picks a type then.
+    if has_stamps(first) {
+        readings::<Stamp>(&mut [blank(); N][..room], first, second, text)
+    } else {
+        readings::<Ticket>(&mut [blank(); N][..room], first, second, text)
+    }
+}
+
+// The same with so much room, of not many more records than that, since to make more takes time.
+fn readings_in_room(room: u16, first: &[u8], second: &[u8], text: &mut Text)
     ensures { content text.new ≡ with_words (words_of_two_readings (min room 1024) first.now second.now) (content text.old) }
 {
     let room = usize::from(room.min(1024));
-    // Kept (no plainer): the item type is known at run time only, and a choice of calls is what picks a type then.
-    if has_stamps(first) {
-        readings::<Stamp>(&mut [blank(); 1024][..room], first, second, text)
+    if room <= 64 {
+        readings_by_type::<64>(room, first, second, text)
+    } else if room <= 256 {
+        readings_by_type::<256>(room, first, second, text)
     } else {
-        readings::<Ticket>(&mut [blank(); 1024][..room], first, second, text)
+        readings_by_type::<1024>(room, first, second, text)
     }
 }
 
@@ -139,7 +173,7 @@ pub(crate) fn reading_answer(body: &[u8], text: &mut Text)
     let room = number_at(body, 0, 2) as u16;
     let length = number_at(body, 2, 4) as usize;
     match cut(body, 6, length) {
-        Some((first, second)) => readings_by_type(room, first, second, text),
+        Some((first, second)) => readings_in_room(room, first, second, text),
         None => no_case(text),
     }
 }
@@ -150,8 +184,9 @@ pub(crate) fn reading_answer(body: &[u8], text: &mut Text)
 struct Draft<'a> {
     kind: u8,
     k: u16,
-    order: &'a [u16],
+    order: Order<'a>,
     size: u16,
+    ghost few: { length (order_of order) ≤ 65535 },
 }
 
 // The words of a refusal by which a trace was not written, or that it was.
@@ -189,20 +224,44 @@ pub(crate) fn read_or_say<I: Item>(
     }
 }
 
-// The operations of a sheet, written as the draft says.
-fn write_words<I: Item>(sheet: &Sheet<I>, draft: &Draft, text: &mut Text)
-    ensures { content text.new ≡ with_words (words_of_writing I.Item draft.now.kind draft.now.k draft.now.order.now draft.now.size (entered sheet.now)) (content text.old) }
+// The operations of a sheet, written as the draft says, with an order of at most `N` numbers into at most `M` bytes.
+fn write_within<I: Item, const N: usize, const M: usize>(
+    sheet: &Sheet<I>,
+    draft: &Draft,
+    text: &mut Text,
+)
+    requires numbers { length (order_of draft.now.order) ≤ N }
+    requires bytes { draft.now.size ≤ M }
+    requires few { (N ≤ 65535) × (M ≤ 65535) }
+    ensures { content text.new ≡ with_words (words_of_writing I.Item draft.now.kind draft.now.k (order_of draft.now.order) draft.now.size (entered sheet.now)) (content text.old) }
 {
-    let mut all = [0xa5u8; 65536];
+    let numbers: [u16; N] = draft.order.numbers();
+    let order = &numbers[..draft.order.len()];
+    let mut all = [0xa5u8; M];
     let memory = &mut all[..usize::from(draft.size)];
-    let answer = write(sheet, draft.kind, draft.k, draft.order, memory);
+    let answer = write(sheet, draft.kind, draft.k, order, memory);
     written_words(answer, hash_on(OF_NOTHING, memory), text);
+}
+
+// The same, in memory that is not much longer than the draft asks for: to fill more takes time.
+fn write_words<I: Item>(sheet: &Sheet<I>, draft: &Draft, text: &mut Text)
+    ensures { content text.new ≡ with_words (words_of_writing I.Item draft.now.kind draft.now.k (order_of draft.now.order) draft.now.size (entered sheet.now)) (content text.old) }
+{
+    let numbers = draft.order.len();
+    let size = draft.size;
+    if numbers <= 64 && size <= 2048 {
+        write_within::<I, 64, 2048>(sheet, draft, text)
+    } else if numbers <= 1024 && size <= 32768 {
+        write_within::<I, 1024, 32768>(sheet, draft, text)
+    } else {
+        write_within::<I, 65535, 65535>(sheet, draft, text)
+    }
 }
 
 // The operations of a trace, which go into the records, written as the draft says.
 fn writing<I: Item>(trace: &[u8], records: &mut [Operation<I>], draft: &Draft, text: &mut Text)
     requires { length records.old ≡ 1024 }
-    ensures { content text.new ≡ with_words (of_trace I.Item (codes "write") (words_of_writing I.Item draft.now.kind draft.now.k draft.now.order.now draft.now.size) trace.now) (content text.old) }
+    ensures { content text.new ≡ with_words (of_trace I.Item (codes "write") (words_of_writing I.Item draft.now.kind draft.now.k (order_of draft.now.order) draft.now.size) trace.now) (content text.old) }
 {
     let mut sheet = Sheet::new(records);
     if read_or_say("write", trace, &mut sheet, text) {
@@ -212,7 +271,7 @@ fn writing<I: Item>(trace: &[u8], records: &mut [Operation<I>], draft: &Draft, t
 
 // The same, for the item type of the trace.
 fn writing_by_type(trace: &[u8], draft: &Draft, text: &mut Text)
-    ensures { content text.new ≡ with_words (words_of_trace_written draft.now.kind draft.now.k draft.now.order.now draft.now.size trace.now) (content text.old) }
+    ensures { content text.new ≡ with_words (words_of_trace_written draft.now.kind draft.now.k (order_of draft.now.order) draft.now.size trace.now) (content text.old) }
 {
     // Kept (no plainer): the item type is known at run time only, and a choice of calls is what picks a type then.
     if has_stamps(trace) {
@@ -232,11 +291,10 @@ pub(crate) fn writing_answer(body: &[u8], text: &mut Text)
     let Some((bytes, trace)) = cut(body, 7, 2 * count) else {
         return no_case(text);
     };
-    let numbers: [u16; 65535] = Order::new(bytes).numbers();
     let draft = Draft {
         kind: body[0],
         k,
-        order: &numbers[..count],
+        order: Order::new(bytes),
         size,
     };
     writing_by_type(trace, &draft, text);

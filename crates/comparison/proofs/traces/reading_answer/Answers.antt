@@ -13,7 +13,7 @@ returns-in-Some c =
     let within = c.in-Some.ensures.variant.0 refl in
     let fits : 6 + number_in 2 4 c.args.body.now ≤ length c.args.body.now = omega (arith, within, n) in
     let split = c.in-Some.ensures.cases in
-    c.readings_by_type.ensures
+    c.readings_in_room.ensures
     ∙ ap (λ told. with_words (or_no_case told) (content c.args.text.now))
     (ap (λ r. Some (words_of_two_readings (min r 1024) c.in-Some.first.now c.in-Some.second.now)) m
     ∙ parts_there 6 (number_in 2 4 body) body (words_of_two_readings (min (number_in 0 2 body) 1024)) fits

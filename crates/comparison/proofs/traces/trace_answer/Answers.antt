@@ -1,21 +1,18 @@
-use Rattle.std.proofs.Common.{◌≡◌, ℕ, List, [], Bor, ap, subst, sym, ◌∙◌, arith}
-use Rattle.std.specs.Option.{unwrap_or}
-use Rattle.std.specs.Str.{IsUtf8}
+use Rattle.std.proofs.Common.{◌≡◌, true, false, cond, ap, ◌∙◌, arith}
+use Rattle.std.proofs.lemmas.Bool.Decides.{nat_tests}
 use Rattle.report.specs.Reports.{report_on}
-use Rattle.text.specs.Contents.{content, with_words, all_said}
+use Rattle.text.specs.Contents.{content, with_words}
 use Rattle.comparison.specs.Words.{words_of_text}
-use Rattle.comparison.proofs.Lasts.{now_unwrap, read_as_text}
-use Rattle.comparison.proofs.Printed.{report_text}
+use Rattle.comparison.proofs.traces.trace_answer.Goals.{then-body-gt700-via-then-body-gt700, then-body-gt700-via-else-body-gt700+then-not-report_words}
 use Rattle.comparison.proofs.traces.trace_answer.Goals as goal
 
-pub returns : goal.returns
-returns c =
-    let ws = (report_on c.args.body.now).text in
-    let e = c.report_trace.ensures in
-    let all = c.whole.ensures ∙ ap all_said (e.said ∙ c.new-report.ensures.whole_where_they_fit ws (omega (arith, e.short))) in
-    let printed : c.unwrap_or-printed.result.now ≡ ws =
-    ap (λ (b : Bor (List ℕ)). b.now) c.unwrap_or-printed.ensures ∙ now_unwrap c.whole.result _ ∙ ap (λ o. unwrap_or o []) all in
-    let P : List ℕ → Type 0 = IsUtf8 in
-    let text = subst P (sym printed) (report_text c.args.body.now) in
-    let read = ap (λ (b : Bor (List ℕ)). b.now) c.unwrap_or.ensures ∙ read_as_text _ c.unwrap_or-printed.result.now text c.from_utf8.result _ c.from_utf8.ensures.cases in
-    c.text_words.ensures ∙ ap (λ l. with_words (words_of_text l) (content c.args.text.now)) (read ∙ printed)
+pub returns-then-body-gt700 : goal.returns-then-body-gt700
+returns-then-body-gt700 c =
+    let e = c.report_words-then-body-gt700.ensures in
+    let all : c.report_words-then-body-gt700.result ≡ true = grind (arith, nat_tests, e.fits, e.short) in
+    let before : content c.then-body-gt700.text ≡ content c.args.text.now =
+    elim c.then-body-gt700.branch [
+    | then-body-gt700-via-then-body-gt700 w ↦ ap content w.text-is
+    | then-body-gt700-via-else-body-gt700+then-not-report_words w ↦ ap content w.text-is ∙ (rw w.if-not-report_words.true at w.report_words.ensures.said)
+    ] in
+    rw (all, before) at e.said

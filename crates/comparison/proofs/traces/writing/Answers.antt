@@ -1,5 +1,6 @@
 use Rattle.std.proofs.Common.{◌≡◌, [], codes, ap, length, arith}
 use Rattle.sheet.specs.Sheets.{room}
+use Rattle.frame.specs.Orders.{order_of}
 use Rattle.trace.specs.Reading.{reading}
 use Rattle.trace.specs.Answers.{sheet_after}
 use Rattle.text.specs.Contents.{content}
@@ -19,6 +20,6 @@ returns-else-read_or_say g c =
     let d = c.args.draft.now in
     let full : room c.new-sheet.result ≡ 1024 = omega (arith, ap length c.new-sheet.ensures.memory, c.requires) in
     let said =
-    refusal_said _ (codes "write") (words_of_writing g.I.Item d.kind d.k d.order.now d.size (sheet_after [] (reading g.I.Item 1024 c.args.trace.now))) (content c.args.text.now)
+    refusal_said _ (codes "write") (words_of_writing g.I.Item d.kind d.k (order_of d.order) d.size (sheet_after [] (reading g.I.Item 1024 c.args.trace.now))) (content c.args.text.now)
     (c.if-read_or_say.ensures.accepted) c.read_or_say.ensures.said in
     rw full at said

@@ -1,12 +1,17 @@
 use Rattle.std.proofs.Common.{◌≡◌, ◌+◌, ◌*◌, ◌/◌, ◌≤◌, ◌∙◌, ap, arith, drop, length, lit≤, refl, Some, slice_index, take}
 use Rattle.record.specs.Bytes.{number_in}
 use Rattle.frame.specs.Orders.{numbers_of, order_of}
-use Rattle.frame.proofs.FirstNumbers.{front_of_first}
 use Rattle.frame.proofs.OrderNumbers.{length_numbers}
 use Rattle.text.specs.Contents.{content, with_words}
 use Rattle.comparison.specs.Cases.{words_of_trace_written, or_no_case}
 use Rattle.comparison.proofs.Parts.{parts_there}
 use Rattle.comparison.proofs.traces.writing_answer.Goals as goal
+
+pub invariant_of-draft : goal.invariant_of-draft
+invariant_of-draft c =
+    let bs = c.new.result.bytes.now in
+    let count = c.number_at-count.ensures.narrow (lit≤ tt) in
+    omega (arith, length_numbers (length bs / 2) bs, ap length c.new.ensures, c.in-Some.ensures.cases.3, count.1)
 
 pub returns : goal.returns
 returns c =
@@ -19,14 +24,12 @@ returns c =
     let split = c.in-Some.ensures.cases in
     let bytes : c.new.result.bytes.now ≡ c.in-Some.bytes.now = c.new.ensures in
     let half : length c.new.result.bytes.now / 2 ≡ number_in 5 2 c.args.body.now = omega (arith, split.3, n, ap length bytes) in
-    let few : length (order_of c.new.result) ≡ number_in 5 2 c.args.body.now = length_numbers (length c.new.result.bytes.now / 2) c.new.result.bytes.now ∙ half in
-    let order : take c.number_at-count.result c.numbers-numbers.result ≡ numbers_of (number_in 5 2 c.args.body.now) c.in-Some.bytes.now =
-    front_of_first 65535 (order_of c.new.result) (omega (arith, n, few)) c.numbers-numbers.ensures (omega (arith, n, few, c.number_at-count.type_inv))
-    ∙ ap (λ h. numbers_of h c.new.result.bytes.now) half ∙ ap (numbers_of (number_in 5 2 c.args.body.now)) bytes in
+    let order : order_of c.new.result ≡ numbers_of (number_in 5 2 c.args.body.now) c.in-Some.bytes.now =
+    ap (λ h. numbers_of h c.new.result.bytes.now) half ∙ ap (numbers_of (number_in 5 2 c.args.body.now)) bytes in
     c.writing_by_type.ensures
     ∙ ap (λ told. with_words (or_no_case told) (content c.args.text.now))
-    (ap (λ x. Some (words_of_trace_written (slice_index body 0) x (take c.number_at-count.result c.numbers-numbers.result) c.number_at-size.result c.in-Some.trace.now)) k
-    ∙ ap (λ x. Some (words_of_trace_written (slice_index body 0) (number_in 1 2 body) (take c.number_at-count.result c.numbers-numbers.result) x c.in-Some.trace.now)) m
+    (ap (λ x. Some (words_of_trace_written (slice_index body 0) x (order_of c.new.result) c.number_at-size.result c.in-Some.trace.now)) k
+    ∙ ap (λ x. Some (words_of_trace_written (slice_index body 0) (number_in 1 2 body) (order_of c.new.result) x c.in-Some.trace.now)) m
     ∙ ap (λ x. Some (words_of_trace_written (slice_index body 0) (number_in 1 2 body) x (number_in 3 2 body) c.in-Some.trace.now)) order
     ∙ parts_there 7 (2 * number_in 5 2 body) body
     (λ o t. words_of_trace_written (slice_index body 0) (number_in 1 2 body) (numbers_of (number_in 5 2 body) o) (number_in 3 2 body) t) fits
