@@ -177,6 +177,7 @@ fn docket_by_type(
 }
 
 // The answer to a case of calls on a docket, or that it is none.
+#[inline(never)]
 pub(crate) fn docket_answer(heap: &mut Heap, body: &[u8], text: &mut Text) -> Result<(), AllocError>
     ensures said { content text.new ≡ (if is_ok result then with_words (or_no_case (docket_case body.now)) (content text.old) else content text.old) }
     ensures refused { has_refused heap.new ≡ (is_err result || has_refused heap.old) }

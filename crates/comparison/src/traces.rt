@@ -77,6 +77,7 @@ fn report_words<const N: usize>(body: &[u8], text: &mut Text) -> bool
 
 // The answer to a case of a trace: how long what is printed of it is, its hash and its last line. A short trace has a short
 // report, which takes less time in less memory; every report fits the longest.
+#[inline(never)]
 pub(crate) fn trace_answer(body: &[u8], text: &mut Text)
     ensures { content text.new ≡ with_words (words_of_text (report_on body.now).text) (content text.old) }
 {
@@ -167,6 +168,7 @@ fn readings_in_room(room: u16, first: &[u8], second: &[u8], text: &mut Text)
 }
 
 // The answer to a case of reading twice, or that it is none.
+#[inline(never)]
 pub(crate) fn reading_answer(body: &[u8], text: &mut Text)
     ensures { content text.new ≡ with_words (or_no_case (reading_case body.now)) (content text.old) }
 {
@@ -282,6 +284,7 @@ fn writing_by_type(trace: &[u8], draft: &Draft, text: &mut Text)
 }
 
 // The answer to a case of writing, or that it is none.
+#[inline(never)]
 pub(crate) fn writing_answer(body: &[u8], text: &mut Text)
     ensures { content text.new ≡ with_words (or_no_case (writing_case body.now)) (content text.old) }
 {

@@ -12,7 +12,7 @@ returns-then-body-gt700 c =
     let all : c.report_words-then-body-gt700.result ≡ true = grind (arith, nat_tests, e.fits, e.short) in
     let before : content c.then-body-gt700.text ≡ content c.args.text.now =
     elim c.then-body-gt700.branch [
-    | then-body-gt700-via-then-body-gt700 w ↦ ap content w.text-is
-    | then-body-gt700-via-else-body-gt700+then-not-report_words w ↦ ap content w.text-is ∙ (rw w.if-not-report_words.true at w.report_words.ensures.said)
+      | then-body-gt700-via-then-body-gt700 w ↦ ap content w.text-is
+      | then-body-gt700-via-else-body-gt700+then-not-report_words w ↦ ap content w.text-is ∙ (rw w.if-not-report_words.true at w.report_words.ensures.said)
     ] in
     rw (all, before) at e.said
