@@ -255,6 +255,8 @@ fn write_words<I: Item>(sheet: &Sheet<I>, draft: &Draft, text: &mut Text)
         write_within::<I, 64, 2048>(sheet, draft, text)
     } else if numbers <= 1024 && size <= 32768 {
         write_within::<I, 1024, 32768>(sheet, draft, text)
+    } else if numbers <= 1024 {
+        write_within::<I, 1024, 65535>(sheet, draft, text)
     } else {
         write_within::<I, 65535, 65535>(sheet, draft, text)
     }
