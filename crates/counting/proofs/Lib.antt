@@ -1,5 +1,4 @@
 pub mod BlocksWithPosition
 pub mod Kept
 pub mod Held
-pub mod SlotNumbers
 pub mod Fronts

@@ -6,7 +6,6 @@ ghost use Rattle.counting.specs.Blocks.{used_upto, BlockSums};
 ghost use Rattle.counting.specs.Slots.{codes};
 
 use crate::blocks::{Change, block_len};
-use crate::maybe::MaybeCode;
 use crate::slot::Slot;
 use holder::holder::ADD_BOUND;
 use std::mem::replace;
@@ -14,7 +13,7 @@ use std::mem::replace;
 // Kept (rule of the project): arrays of 1,024 in the struct, since a holder is fixed memory with no heap.
 #[derive(Drop)]
 pub struct Arrivals {
-    slots: [MaybeCode; 1024],
+    slots: [Option<u16>; 1024],
     sums: [u16; 1025],
     ghost slotted: { length slots ≡ 1024 },
     ghost summed: { length sums ≡ 1025 },
@@ -22,7 +21,7 @@ pub struct Arrivals {
 }
 
 // Writes the codes of the used slots over the front of the buffer, until it is full, and answers how many.
-fn write_codes(slots: &[MaybeCode], buffer: &mut [u16]) -> usize
+fn write_codes(slots: &[Option<u16>], buffer: &mut [u16]) -> usize
     ensures answer { result ≡ min (length (codes slots.now)) (length buffer.old) }
     ensures written { buffer.new ≡ front_over (codes slots.now) buffer.old }
 {
@@ -31,7 +30,7 @@ fn write_codes(slots: &[MaybeCode], buffer: &mut [u16]) -> usize
         if written == buffer.len() {
             break;
         }
-        if let Some(code) = slot.get() {
+        if let Some(code) = *slot {
             // Kept (proof): by index, since after a zip with `iter_mut` no fact says what an element is.
             buffer[written] = code;
             written += 1;
@@ -45,7 +44,7 @@ impl Arrivals {
         ensures { result.slots ≡ replicate 1024 None }
     {
         Arrivals {
-            slots: [MaybeCode::none(); 1024],
+            slots: [None; 1024],
             sums: [0; 1025],
         }
     }
@@ -53,17 +52,17 @@ impl Arrivals {
     pub(crate) fn get(&self, slot: Slot) -> Option<u16>
         ensures { result ≡ slice_index_or self.now.slots slot.number None }
     {
-        self.slots[slot.number as usize].get()
+        self.slots[slot.number as usize]
     }
 
-    pub(crate) fn put(&mut self, slot: Slot, code: MaybeCode)
+    pub(crate) fn put(&mut self, slot: Slot, code: Option<u16>)
         ensures { self.new.slots ≡ slice_set self.old.slots slot.number code }
     {
         let before = replace(&mut self.slots[slot.number as usize], code);
         let change = Change {
             slot,
-            before: before.get(),
-            after: code.get(),
+            before,
+            after: code,
         };
         change.apply(&mut self.sums);
     }
@@ -105,7 +104,7 @@ impl Arrivals {
     }
 
     // The slots from the first used one on.
-    fn from_first(&self) -> &[MaybeCode]
+    fn from_first(&self) -> &[Option<u16>]
         ensures { codes result.now ≡ codes self.now.slots }
     {
         let first = if self.used_before(ADD_BOUND) > 0 {
@@ -113,8 +112,7 @@ impl Arrivals {
         } else {
             ADD_BOUND
         };
-        let slots = &self.slots[..];
-        &slots[first as usize..]
+        &self.slots[first as usize..]
     }
 
     // Writes the first codes over the front of the buffer, as many as it has entries for, and answers how many.

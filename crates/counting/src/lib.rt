@@ -5,6 +5,5 @@
 pub mod answers_as_queue;
 mod arrivals;
 mod blocks;
-mod maybe;
 pub mod queue;
 mod slot;

@@ -6,7 +6,6 @@ ghost use Rattle.counting.specs.Codes.{codes_once, codes_below, codes_few};
 ghost use Rattle.std.proofs.Common.{rules};
 
 use crate::arrivals::Arrivals;
-use crate::maybe::{MaybeCode, MaybeSlot};
 use crate::slot::Slot;
 use holder::fault::HolderFault;
 use holder::holder::{ADD_BOUND, CODE_BOUND, Holder};
@@ -15,7 +14,7 @@ use holder::holder::{ADD_BOUND, CODE_BOUND, Holder};
 #[derive(Drop)]
 pub struct CountingQueue {
     arrivals: Arrivals,
-    positions: [MaybeSlot; 1024],
+    positions: [Option<Slot>; 1024],
     added: u16,
     ghost long: { length positions ≡ 1024 },
     ghost few: { added ≤ 1024 },
@@ -32,7 +31,7 @@ impl CountingQueue {
     {
         CountingQueue {
             arrivals: Arrivals::new(),
-            positions: [MaybeSlot::none(); 1024],
+            positions: [None; 1024],
             added: 0,
         }
     }
@@ -41,7 +40,7 @@ impl CountingQueue {
     fn position(&self, code: u16) -> Option<Slot>
         ensures { result ≡ slice_index_or self.now.positions code None }
     {
-        self.positions.get(code as usize)?.get()
+        *self.positions.get(code as usize)?
     }
 }
 
@@ -98,8 +97,8 @@ impl Holder for CountingQueue {
             return Err(HolderFault::AlreadyHeld);
         }
         let slot = Slot::new(self.added).ok_or(HolderFault::AddsUsedUp)?;
-        self.positions[code as usize] = MaybeSlot::some(slot);
-        self.arrivals.put(slot, MaybeCode::some(code));
+        self.arrivals.put(slot, Some(code));
+        self.positions[code as usize] = Some(slot);
         self.added += 1;
         Ok(())
     }
@@ -107,8 +106,8 @@ impl Holder for CountingQueue {
     #[tactic(auto, using(crate::proofs::Held::not_held, crate::proofs::Held::place_held, giving::proofs::Places::times_absent, giving::proofs::Places::without_absent))]
     fn take(&mut self, code: u16) -> Result<(), HolderFault> {
         let slot = self.position(code).ok_or(HolderFault::NotHeld)?;
-        self.positions[code as usize] = MaybeSlot::none();
-        self.arrivals.put(slot, MaybeCode::none());
+        self.arrivals.put(slot, None);
+        self.positions[code as usize] = None;
         Ok(())
     }
 }

@@ -1,5 +1,5 @@
-use Rattle.std.proofs.Common.{◌≡◌, ℕ, ◌+◌, None, get_or, List, refl, ◌++◌, length, take, drop, sym, ap, ◌∙◌, arith}
-use Rattle.std.proofs.lemmas.List.{length-append, length_push, get_or_read_under}
+use Rattle.std.proofs.Common.{ℕ, ◌+◌, List, ◌++◌, length, take, drop, sym, ap, ◌∙◌, arith}
+use Rattle.std.proofs.lemmas.List.{length-append, length_push}
 use Rattle.giving.proofs.Fronts.{front_push}
 use Rattle.counting.specs.Slots.{codes}
 use Rattle.counting.specs.Codes.{codes_empty}
@@ -20,10 +20,9 @@ loop-slot-preserved c =
     let i = c.loop-slot.slot-index in
     let n = c.loop-slot.written in
     let inv = c.loop-slot.invariant in
-    let item : c.slot-item.result ≡ get_or s i None = get_or_read_under s i (length s) c.slot-item.result None c.slot-item.is c.loop-slot-test.true refl in
-    elim c.match-get.branch [
+    elim c.match-slot.branch [
       | in-Some w ↦
-          let more = codes_more s i w.in-Some.code c.loop-slot-test.true (sym item ∙ sym c.get.ensures ∙ w.in-Some.is) in
+          let more = codes_more s i w.in-Some.code c.loop-slot-test.true w.in-Some.is in
           let long = ap length more ∙ length_push (codes (take i s)) w.in-Some.code in
           record {
             many = omega (arith, inv.many);
@@ -34,7 +33,7 @@ loop-slot-preserved c =
                 ∙ ap (λ (k : ℕ). codes (take (i + 1) s) ++ drop k c.args.buffer.now) (sym w.written-is);
           }
       | in_default w ↦
-          let same = codes_same s i c.loop-slot-test.true (sym item ∙ sym c.get.ensures ∙ w.in_default.is) in
+          let same = codes_same s i c.loop-slot-test.true w.in_default.is in
           record {
             many = w.written-is ∙ inv.many ∙ sym (ap length same);
             room = omega (arith, inv.room);

@@ -1,4 +1,4 @@
-use Rattle.std.proofs.Common.{◌≡◌, ◌-◌, length, drop, ap, ◌∙◌, length-drop, arith}
+use Rattle.std.proofs.Common.{◌≡◌, ◌-◌, drop, ap, ◌∙◌, length-drop, arith}
 use Rattle.std.proofs.lemmas.List.{take_all}
 use Rattle.counting.specs.Blocks.{used_upto}
 use Rattle.counting.specs.Slots.{codes}
@@ -15,4 +15,4 @@ returns c =
       | then-used_before-gt0 w ↦ ap (used_upto s) w.first-is ∙ w.select.ensures.before
       | else-used_before-gt0 w ↦ ap (used_upto s) w.first-is ∙ omega arith
     ] in
-    ap codes (take_all (length s - first) (drop first s) (let l = length-drop first s in omega arith)) ∙ codes_from s first none
+    ap codes (take_all (1024 - first) (drop first s) (let l = length-drop first s in omega arith)) ∙ codes_from s first none

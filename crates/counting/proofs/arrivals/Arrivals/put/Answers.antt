@@ -1,5 +1,3 @@
-use Rattle.std.proofs.Common.{◌≡◌, None, get_or, ◌∙◌, arith}
-use Rattle.std.proofs.lemmas.List.{get_or_default}
 use Rattle.counting.specs.Sums.{sum_le, sum_enough, sums_set}
 use Rattle.counting.proofs.arrivals.Arrivals.put.Goals as goal
 
@@ -9,12 +7,10 @@ apply-requires-clause-room c = let r = c.args.self.now in sum_le r.sums r.slots 
 pub apply-requires-clause-enough : goal.apply-requires-clause-enough
 apply-requires-clause-enough c =
     let r = c.args.self.now in
-    let before : c.get.result ≡ get_or r.slots c.args.slot.number None = c.get.ensures ∙ c.replace-before.ensures.value ∙ get_or_default r.slots c.args.slot.number _ None (omega arith) in
-    rw before (sum_enough r.sums r.slots c.args.slot.number r.slotted r.right)
+    rw c.replace-before.ensures.value (sum_enough r.sums r.slots c.args.slot.number r.slotted r.right)
 
 pub invariant_of-self-clause-right : goal.invariant_of-self-clause-right
 invariant_of-self-clause-right c =
     let r = c.args.self.now in
-    let before : c.get.result ≡ get_or r.slots c.args.slot.number None = c.get.ensures ∙ c.replace-before.ensures.value ∙ get_or_default r.slots c.args.slot.number _ None (omega arith) in
-    let changed = rw (before, c.get-2.ensures) at c.apply.ensures.changed in
+    let changed = rw c.replace-before.ensures.value at c.apply.ensures.changed in
     rw c.replace-before.ensures.after (sums_set r.sums c.apply.new.sums r.slots c.args.slot.number c.args.code r.slotted r.right changed)

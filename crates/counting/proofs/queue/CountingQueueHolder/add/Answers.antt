@@ -16,15 +16,14 @@ invariant_of-self c =
     let q = c.args.self.now in
     let slot = c.in_ok-slot.slot in
     let n = slot_number q.added c.new.result slot c.new.ensures c.in_ok-slot.ensures.ok_part in
-    let put = rw c.some-2.ensures at c.put.ensures in
     let kept =
-    kept_add q.arrivals.slots q.positions slot c.args.code (omega arith) (omega arith) (omega arith) (rw n q.free) q.placed q.back (free (goal.at.invariant_of-self c).After-new) c.put.new.self.slots put in
+    kept_add q.arrivals.slots q.positions slot c.args.code (omega arith) (omega arith) (omega arith) (rw n q.free) q.placed q.back (free (goal.at.invariant_of-self c).After-new) c.put.new.self.slots c.put.ensures in
     record {
       long = simp length-set q.long;
       few = omega arith;
       free = rw n at kept.0;
-      placed = rw c.some.ensures kept.1;
-      back = rw c.some.ensures kept.2;
+      placed = kept.1;
+      back = kept.2;
     }
 
 pub returns-clause-list : goal.returns-clause-list
@@ -32,4 +31,4 @@ returns-clause-list c =
     let q = c.args.self.now in
     let slot = c.in_ok-slot.slot in
     let n = slot_number q.added c.new.result slot c.new.ensures c.in_ok-slot.ensures.ok_part in
-    ap codes (rw c.some-2.ensures at c.put.ensures) ∙ codes_pushed q.arrivals.slots slot.number c.args.code (omega arith) (rw n q.free) ∙ sym (insert_end (codes q.arrivals.slots) c.args.code)
+    ap codes c.put.ensures ∙ codes_pushed q.arrivals.slots slot.number c.args.code (omega arith) (rw n q.free) ∙ sym (insert_end (codes q.arrivals.slots) c.args.code)

@@ -11,15 +11,14 @@ invariant_of-self c =
     let slot = c.in_ok-slot.slot in
     let p : get_or q.positions c.args.code None ≡ Some slot = sym c.position.ensures ∙ c.in_ok-slot.ensures.ok_part in
     let h = held_at q c.args.code slot p in
-    let put = rw c.none-2.ensures at c.put.ensures in
     let kept =
-    kept_take q.arrivals.slots q.positions q.added slot c.args.code (omega arith) (within q.positions c.args.code slot p) q.free q.placed q.back p h.slot c.put.new.self.slots put in
+    kept_take q.arrivals.slots q.positions q.added slot c.args.code (omega arith) (within q.positions c.args.code slot p) q.free q.placed q.back p h.slot c.put.new.self.slots c.put.ensures in
     record {
       long = simp length-set q.long;
       few = q.few;
       free = kept.0;
-      placed = rw c.none.ensures kept.1;
-      back = rw c.none.ensures kept.2;
+      placed = kept.1;
+      back = kept.2;
     }
 
 pub returns-clause-answer : goal.returns-clause-answer
@@ -30,4 +29,4 @@ returns-clause-list c =
     let q = c.args.self.now in
     let slot = c.in_ok-slot.slot in
     let h = held_at q c.args.code slot (sym c.position.ensures ∙ c.in_ok-slot.ensures.ok_part) in
-    ap codes (rw c.none-2.ensures at c.put.ensures) ∙ codes_without q.arrivals.slots q.positions c.args.code slot.number q.placed h.slot
+    ap codes c.put.ensures ∙ codes_without q.arrivals.slots q.positions c.args.code slot.number q.placed h.slot
