@@ -120,10 +120,14 @@ words_of_session seat ops k calls =
     codes "docket " ++ (words_of_answers (answers_for seat ops k [] calls) ++ words_of_held (giving_after seat ops (placed_by seat ops k [] calls)))
 
 -- calls on a docket of a trace's operations, by its item type
+abbrev pub words_of_docket_calls : SeatRule → ℕ → List ℕ → List Call → List ℕ
+words_of_docket_calls seat k trace calls =
+    by_type trace (of_trace stamp_items (codes "docket") (λ os. words_of_session seat (paired_all stamp_items.number os) k calls) trace)
+    (of_trace ticket_items (codes "docket") (λ os. words_of_session seat (paired_all ticket_items.number os) k calls) trace)
+
+-- the same, of the calls that bytes say
 abbrev pub words_of_docket : SeatRule → ℕ → List ℕ → List ℕ → List ℕ
-words_of_docket seat k trace calls =
-    by_type trace (of_trace stamp_items (codes "docket") (λ os. words_of_session seat (paired_all stamp_items.number os) k (docket_calls calls)) trace)
-    (of_trace ticket_items (codes "docket") (λ os. words_of_session seat (paired_all ticket_items.number os) k (docket_calls calls)) trace)
+words_of_docket seat k trace calls = words_of_docket_calls seat k trace (docket_calls calls)
 
 -- a case of calls on a docket
 abbrev pub docket_case : List ℕ → Option (List ℕ)

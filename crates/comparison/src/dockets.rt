@@ -1,5 +1,5 @@
 // Cases of calls on a docket.
-ghost use Rattle.std.specs.Prelude.{◌≡◌, ◌||◌, codes, map, length, is_ok, is_err, if◌then◌else◌};
+ghost use Rattle.std.specs.Prelude.{◌≡◌, ◌+◌, ◌*◌, ◌≤◌, ◌||◌, codes, map, min, length, is_ok, is_err, if◌then◌else◌};
 ghost use Rattle.frame.specs.Kinds.{kind_number};
 ghost use Rattle.docket.specs.Buffers.{owned};
 ghost use Rattle.docket.specs.Pairs.{paired_all, sheet_ops};
@@ -8,7 +8,7 @@ ghost use Rattle.examination.specs.Kinds.{seat_of};
 ghost use Rattle.text.specs.Contents.{content, with_words};
 ghost use Rattle.comparison.specs.Heaps.{has_refused};
 ghost use Rattle.comparison.specs.Hashes.{hash_of, bytes_of_shorts, bytes_of_buffers};
-ghost use Rattle.comparison.specs.Cases.{of_trace, words_of_answers, words_of_session, words_of_docket, docket_case, or_no_case};
+ghost use Rattle.comparison.specs.Cases.{of_trace, words_of_answers, words_of_session, words_of_docket_calls, words_of_docket, docket_case, or_no_case};
 ghost use Rattle.comparison.specs.Words.{words_of_answer, words_of_held};
 
 use crate::hash::{OF_NOTHING, hash_on, hash_short, hash_shorts};
@@ -21,7 +21,7 @@ use counting::queue::CountingQueue;
 use docket::answer_calls::answer_calls;
 use docket::buffers::OwnBuffers;
 use docket::slot::Slot;
-use examination::examining::{blank, has_stamps};
+use examination::examining::{FEW, blank, has_few, has_stamps};
 use examination::kind::any_kind;
 use frame::kind::Kind;
 use holder::holder::Holder;
@@ -135,7 +135,8 @@ fn docket_words_by_kind<I: Item>(
     }
 }
 
-// The answers to the calls in slots on a docket of the trace's operations, which go into the records.
+// The answers to the calls in slots on a docket of the trace's operations, which go into the records, enough for a trace of that
+// length.
 fn on_trace<I: Item>(
     trace: &[u8],
     records: &mut [Operation<I>],
@@ -144,12 +145,43 @@ fn on_trace<I: Item>(
     slots: &mut [Slot],
     text: &mut Text,
 )
-    requires { length records.old ≡ 1024 }
+    requires { min (length trace.now) 26632 ≤ 8 + 26 * length records.old }
     ensures { content text.new ≡ with_words (of_trace I.Item (codes "docket") (λ os. words_of_session (seat_of (kind_number kind)) (paired_all I.Item.number os) k (map call_of slots.old)) trace.now) (content text.old) }
 {
     let mut sheet = Sheet::new(records);
     if read_or_say("docket", trace, &mut sheet, text) {
         docket_words_by_kind(&sheet, kind, k, slots, text);
+    }
+}
+
+// The same for the item type of the trace, in `N` records, enough for a trace of that length.
+fn on_trace_within<const N: usize>(
+    trace: &[u8],
+    kind: Kind,
+    k: u16,
+    slots: &mut [Slot],
+    text: &mut Text,
+)
+    requires bounded { N ≤ 1024 }
+    requires enough { min (length trace.now) 26632 ≤ 8 + 26 * N }
+    ensures { content text.new ≡ with_words (words_of_docket_calls (seat_of (kind_number kind)) k trace.now (map call_of slots.old)) (content text.old) }
+{
+    // Kept (no plainer): the item type is known at run time only, and a choice of calls is what picks a type then.
+    if has_stamps(trace) {
+        on_trace::<Stamp>(trace, &mut [blank(); N], kind, k, slots, text);
+    } else {
+        on_trace::<Ticket>(trace, &mut [blank(); N], kind, k, slots, text);
+    }
+}
+
+// The same in as many records as the trace's length asks for.
+fn on_any_trace(trace: &[u8], kind: Kind, k: u16, slots: &mut [Slot], text: &mut Text)
+    ensures { content text.new ≡ with_words (words_of_docket_calls (seat_of (kind_number kind)) k trace.now (map call_of slots.old)) (content text.old) }
+{
+    if has_few(trace) {
+        on_trace_within::<FEW>(trace, kind, k, slots, text);
+    } else {
+        on_trace_within::<1024>(trace, kind, k, slots, text);
     }
 }
 
@@ -166,13 +198,7 @@ fn docket_by_type(
     ensures refused { has_refused heap.new ≡ (is_err result || has_refused heap.old) }
 {
     let mut slots = all_slots(heap, calls)?;
-    let slots = slots.as_mut_slice();
-    // Kept (no plainer): the item type is known at run time only, and a choice of calls is what picks a type then.
-    if has_stamps(trace) {
-        on_trace::<Stamp>(trace, &mut [blank(); 1024], kind, k, slots, text);
-    } else {
-        on_trace::<Ticket>(trace, &mut [blank(); 1024], kind, k, slots, text);
-    }
+    on_any_trace(trace, kind, k, slots.as_mut_slice(), text);
     Ok(())
 }
 

@@ -1,5 +1,6 @@
 -- A certificate is granted exactly to the bytes of a true trace.
-use Rattle.std.proofs.Common.{◌≡◌, ℕ, ◌<◌, true, false, List, length, is_ok, IfOk, Ok, Err, Result, sym, refl, ap, ◌∙◌, subst, inl, inr, arith, rules}
+use Rattle.std.proofs.Common.{◌≡◌, ℕ, ◌<◌, Bool, true, false, cond, List, length, is_ok, IfOk, Ok, Err, Result, ◌==◌, sym, refl, ap, ◌∙◌, subst, inl, inr, arith, rules}
+use Rattle.std.proofs.lemmas.Bool.Decides.{nat_tests}
 use lib.ListN.{length-map}
 use Rattle.item.specs.declared.item.Item.{Ghosts}
 use Rattle.item.specs.Items.{Lawful}
@@ -17,7 +18,7 @@ use Rattle.calls.specs.Meanings.{Granted}
 use Rattle.calls.specs.Rules.{Buffers, is_too_short}
 use Rattle.docket.specs.Pairs.{paired_all, paired_of}
 use Rattle.examination.specs.Kinds.{seat_of}
-use Rattle.examination.specs.Traces.{examining, type_of, TrueTrace, TrueTraceOfEither, count_of, Certified, CertifiedOfEither}
+use Rattle.examination.specs.Traces.{Examined, examining, type_of, by_type, examination_of, TrueTrace, TrueTraceOfEither, count_of, Certified, CertifiedOfEither}
 use Rattle.examination.proofs.Grants.{granted_is_true, true_is_granted, certificate_is_true}
 
 pub lawful_tickets : Lawful ticket_items
@@ -124,3 +125,31 @@ module _ {I : Type 0} (t : Ghosts I) (law : Lawful t) (bs : List ℕ) (bytes : B
       IfOk r (λ c. CertifiedOfEither bs b c w)
   answer_certified type (Ok c) e v = type.certificate b c w (certified (reading t 1024 bs) refl c (sym e) v)
   answer_certified type (Err f) e v = tt
+
+-- what holds of a value by each item type, lawful and that of a trace, holds of the value by the type that its header names
+module _ {A : Type 0} (value : (I : Type 0) → Ghosts I → A) (P : A → Type 0) (bs : List ℕ) (each : (I : Type 0) (t : Ghosts I) → Lawful t → IsOfType t bs → P (value I t)) where
+  by_test : (stamps : Bool) → (type_of bs == 1) ≡ stamps → P (cond stamps (value _ stamp_items) (value _ ticket_items))
+  by_test true e =
+      let one : type_of bs ≡ 1 = grind (arith, nat_tests) in
+      each _ stamp_items lawful_stamps (of_stamps bs one)
+  by_test false e =
+      let other : type_of bs ≡ 1 → ⊥ = λ q. grind (arith, nat_tests) in
+      each _ ticket_items lawful_tickets (of_tickets bs other)
+
+  pub by_its_type : P (by_type bs (value _ stamp_items) (value _ ticket_items))
+  by_its_type = by_test (type_of bs == 1) refl
+
+module _ (bs : List ℕ) (bytes : Bytes bs) (b : Buffers) (r : Result Certificate Refusal) (e : r ≡ (examination_of bs b).answer) where
+  -- the examination's answer is a certificate exactly for the bytes of a true trace
+  pub examined_exactly : (is_ok r ≡ true → TrueTraceOfEither bs) × ((h : TrueTraceOfEither bs) → is_too_short (count_of h) b ≡ false → is_ok r ≡ true)
+  examined_exactly =
+      by_its_type (λ I t. examining t b (reading t 1024 bs))
+      (λ (x : Examined). r ≡ x.answer → (is_ok r ≡ true → TrueTraceOfEither bs) × ((h : TrueTraceOfEither bs) → is_too_short (count_of h) b ≡ false → is_ok r ≡ true)) bs
+      (λ I t law type. answered_exactly t law bs bytes type b r) e
+
+  -- and what that certificate says is true of the trace
+  pub examined_certified : (w : Buffers) → w ≡ (examination_of bs b).buffers → IfOk r (λ c. CertifiedOfEither bs b c w)
+  examined_certified w v =
+      by_its_type (λ I t. examining t b (reading t 1024 bs))
+      (λ (x : Examined). r ≡ x.answer → w ≡ x.buffers → IfOk r (λ c. CertifiedOfEither bs b c w)) bs
+      (λ I t law type. answer_certified t law bs bytes b w type r) e v

@@ -1,5 +1,5 @@
 -- The outcome of reading a trace, by what is answered and what the sheet then holds.
-use Rattle.std.proofs.Common.{◌≡◌, ℕ, List, Ok, Err, ap, ◌∙◌, sym, refl}
+use Rattle.std.proofs.Common.{◌≡◌, ℕ, List, Ok, Err, ap, ◌∙◌}
 use Rattle.sheet.specs.declared.operation.Operation.{Operation}
 use Rattle.trace.specs.declared.fault.EntryFault.{EntryFault}
 use Rattle.trace.specs.declared.fault.ReadFault.{ReadFault}

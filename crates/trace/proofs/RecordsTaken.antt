@@ -93,7 +93,7 @@ module _ {I : Type 0} (t : Ghosts I) (room : ℕ) where
       (ap (λ o. Ok o) p.0, p.1)
   decoded_back os op (Err f) e = absurd cc
 
-  after_back : (os fin : List (Operation I)) (i : ℕ) (r : Result (Operation I) EntryFault) → after_record os i r ≡ going fin →
+  pub after_back : (os fin : List (Operation I)) (i : ℕ) (r : Result (Operation I) EntryFault) → after_record os i r ≡ going fin →
       (op : Operation I) × (r ≡ Ok op) × (fin ≡ os ++ op ∷ [])
   after_back os fin i (Ok op) e = (op, refl, cc)
   after_back os fin i (Err f) e = absurd cc

@@ -11,7 +11,9 @@ use item::item::Item;
 use sheet::sheet::Sheet;
 
 impl<H: Holder> Docket<H> {
-    // A docket of the sheet's operations with the bound k and no step placed. The holder is cleared.
+    // A docket of the sheet's operations with the bound k and no step placed. The holder is cleared. It is inlined, so that the
+    // docket is made where its caller has it, and not copied there.
+    #[inline(always)]
     pub fn open<I: Item>(sheet: &Sheet<I>, mut holder: H, k: u16) -> Docket<H>
         ensures agreed { Agreed H.Holder result }
         ensures steps { steps_in result ≡ [] }

@@ -37,7 +37,7 @@ pub(crate) fn paired<I: Item>(sheet: &Sheet<I>, number: usize, operation: &Opera
     }
 }
 
-// A ledger of the operations of the sheet, with no step placed.
+// A ledger of the operations of the sheet, with no step placed. It is inlined, so that its parts are not copied once more.
 #[inline(always)]
 pub(crate) fn copied<I: Item>(sheet: &Sheet<I>, k: u16) -> Ledger
     ensures table { ops_of result ≡ paired_all I.Item.number (entered sheet.now) }

@@ -1,8 +1,6 @@
-use Rattle.std.proofs.Common.{◌≡◌, true, false, cond, ap, ◌∙◌, arith}
+use Rattle.std.proofs.Common.{◌≡◌, true, ap, ◌∙◌, arith}
 use Rattle.std.proofs.lemmas.Bool.Decides.{nat_tests}
-use Rattle.report.specs.Reports.{report_on}
-use Rattle.text.specs.Contents.{content, with_words}
-use Rattle.comparison.specs.Words.{words_of_text}
+use Rattle.text.specs.Contents.{content}
 use Rattle.comparison.proofs.traces.trace_answer.Goals.{then-body-gt700-via-then-body-gt700, then-body-gt700-via-else-body-gt700+then-not-report_words}
 use Rattle.comparison.proofs.traces.trace_answer.Goals as goal
 

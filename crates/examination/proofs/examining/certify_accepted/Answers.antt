@@ -14,6 +14,6 @@ returns g c =
     let seat = seat_of (kind_number a.kind) in
     let ops = sheet_ops g.I.Item.number c.args.sheet.now in
     let b = held c.args.buffers.now in
-    let front = front_of_first 1024 (order_of a.order) c.len.ensures c.numbers-numbers.ensures c.requires.few in
+    let front = front_of_first g.row.N (order_of a.order) c.len.ensures c.numbers-numbers.ensures c.requires.few in
     let e = c.certify_of_kind.ensures in
     record { answer = e.answer ∙ ap (λ p. order_answer seat ops a.k p b) front; written = e.written ∙ ap (λ p. order_written seat ops a.k p b) front; lenders = e.lenders }

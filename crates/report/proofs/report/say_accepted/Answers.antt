@@ -11,7 +11,7 @@ use Rattle.report.proofs.report.say_accepted.Goals as goal
 pub returns : goal.returns
 returns g c =
     let a = c.args.accepted.now in
-    let front = front_of_first 1024 (order_of a.order) c.len.ensures c.numbers-numbers.ensures c.requires.few in
+    let front = front_of_first g.row.N (order_of a.order) c.len.ensures c.numbers-numbers.ensures c.requires.few in
     let same = ap (verdict_of_order g.I.Item (seat_of (kind_number a.kind)) (entered c.args.sheet.now) a.k) front in
     record {
       granted = c.say_verdict.ensures.granted ∙ ap (λ (v : Verdict). v.granted) same;
