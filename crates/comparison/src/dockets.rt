@@ -1,6 +1,7 @@
 // Cases of calls on a docket.
-ghost use Rattle.std.specs.Prelude.{◌≡◌, ◌+◌, ◌*◌, ◌≤◌, ◌||◌, codes, map, min, length, is_ok, is_err, if◌then◌else◌};
+ghost use Rattle.std.specs.Prelude.{◌≡◌, ◌≤◌, ◌||◌, codes, map, length, is_ok, is_err, if◌then◌else◌};
 ghost use Rattle.frame.specs.Kinds.{kind_number};
+ghost use Rattle.trace.specs.Reading.{Enough};
 ghost use Rattle.docket.specs.Buffers.{owned};
 ghost use Rattle.docket.specs.Pairs.{paired_all, sheet_ops};
 ghost use Rattle.docket.specs.Slots.{call_of, reply_of};
@@ -145,7 +146,7 @@ fn on_trace<I: Item>(
     slots: &mut [Slot],
     text: &mut Text,
 )
-    requires { min (length trace.now) 26632 ≤ 8 + 26 * length records.old }
+    requires { Enough (length records.old) trace.now }
     ensures { content text.new ≡ with_words (of_trace I.Item (codes "docket") (λ os. words_of_session (seat_of (kind_number kind)) (paired_all I.Item.number os) k (map call_of slots.old)) trace.now) (content text.old) }
 {
     let mut sheet = Sheet::new(records);
@@ -163,7 +164,7 @@ fn on_trace_within<const N: usize>(
     text: &mut Text,
 )
     requires bounded { N ≤ 1024 }
-    requires enough { min (length trace.now) 26632 ≤ 8 + 26 * N }
+    requires enough { Enough N trace.now }
     ensures { content text.new ≡ with_words (words_of_docket_calls (seat_of (kind_number kind)) k trace.now (map call_of slots.old)) (content text.old) }
 {
     // Kept (no plainer): the item type is known at run time only, and a choice of calls is what picks a type then.
@@ -174,7 +175,7 @@ fn on_trace_within<const N: usize>(
     }
 }
 
-// The same in as many records as the trace's length asks for.
+// The same in records that are enough for the trace's length.
 fn on_any_trace(trace: &[u8], kind: Kind, k: u16, slots: &mut [Slot], text: &mut Text)
     ensures { content text.new ≡ with_words (words_of_docket_calls (seat_of (kind_number kind)) k trace.now (map call_of slots.old)) (content text.old) }
 {

@@ -1,9 +1,9 @@
 // From the bytes of a trace to the certificate of its order.
-ghost use Rattle.std.specs.Prelude.{◌≡◌, ◌+◌, ◌*◌, ◌≤◌, min, true, false, length, is_ok, IfOk, ◌==◌, nat_le};
+ghost use Rattle.std.specs.Prelude.{◌≡◌, ◌≤◌, true, false, length, is_ok, IfOk, ◌==◌, nat_le};
 ghost use Rattle.sheet.specs.declared.operation.Method.TheVariants.{FoundEmpty};
 ghost use Rattle.frame.specs.Kinds.{kind_number};
 ghost use Rattle.frame.specs.Orders.{order_of};
-ghost use Rattle.trace.specs.Reading.{reading};
+ghost use Rattle.trace.specs.Reading.{reading, Enough};
 ghost use Rattle.calls.specs.Rules.{is_too_short};
 ghost use Rattle.docket.specs.Pairs.{sheet_ops};
 ghost use Rattle.docket.specs.Buffers.{held, SameSlices};
@@ -36,7 +36,7 @@ pub fn blank<I: Item>() -> Operation<I>
     }
 }
 
-// How many operations a trace of few has at most. They go into so many records, and those of every other trace into 1,024,
+// How many operations a trace of few operations has at most. They go into so many records, and those of every other trace into 1,024,
 // since to make more takes time.
 pub const FEW: usize = 64;
 
@@ -82,7 +82,7 @@ fn certify_of<I: Item, const N: usize>(
 ) -> Result<Certificate, Refusal>
     requires few { length records.old ≤ N }
     requires bounded { N ≤ 1024 }
-    requires enough { min (length bytes.now) 26632 ≤ 8 + 26 * length records.old }
+    requires enough { Enough (length records.old) bytes.now }
     ensures answer { result ≡ (examining I.Item (held buffers.old) (reading I.Item 1024 bytes.now)).answer }
     ensures written { held buffers.new ≡ (examining I.Item (held buffers.old) (reading I.Item 1024 bytes.now)).buffers }
     ensures lenders { SameSlices buffers.old buffers.new }
@@ -98,7 +98,7 @@ fn certify_within<const N: usize>(
     buffers: &mut Buffers,
 ) -> Result<Certificate, Refusal>
     requires bounded { N ≤ 1024 }
-    requires enough { min (length bytes.now) 26632 ≤ 8 + 26 * N }
+    requires enough { Enough N bytes.now }
     ensures answer { result ≡ (examination_of bytes.now (held buffers.old)).answer }
     ensures written { held buffers.new ≡ (examination_of bytes.now (held buffers.old)).buffers }
     ensures lenders { SameSlices buffers.old buffers.new }

@@ -13,7 +13,8 @@ use text::text::Text;
 // How many bytes the longest trace has: 8 + 26 * 1,024. One more shows that an input is longer.
 const LONGEST: u64 = 26_632;
 
-// Prints the report of a trace where it fits `N` bytes, and answers whether a certificate is granted; else prints nothing.
+// Prints the report of a trace where it fits `N` bytes, and answers whether a certificate is granted; else prints nothing. Not
+// inlined, so that a short report does not go through the memory of the longest.
 #[inline(never)]
 fn print_within<const N: usize>(rt: &HostRuntime, bytes: &[u8]) -> anyhow::Result<Option<bool>>
     requires { N ≤ 150639 }
@@ -31,7 +32,8 @@ fn print_within<const N: usize>(rt: &HostRuntime, bytes: &[u8]) -> anyhow::Resul
     Ok(Some(granted))
 }
 
-// The same in as much memory as the report takes: one of few operations has less than 10,240 bytes, and to fill more takes time.
+// The same, for few operations in memory that is short, since to fill more takes time: their report has less than 10,240 bytes
+// (64 times 147 and 111 at most), and one that had more would go into the memory for the longest.
 fn print_report(rt: &HostRuntime, bytes: &[u8]) -> anyhow::Result<Option<bool>> {
     if has_few(bytes) {
         if let Some(granted) = print_within::<10240>(rt, bytes)? {

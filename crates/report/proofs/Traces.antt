@@ -19,7 +19,7 @@ granted_outcome t (accepted c) b s =
     let exactly = granted_exactly t (seat_of c.kind) c.ops c.k c.order (saying t (accepted c)) refl in
     (λ g. exactly.0 (sym s ∙ g), λ h. s ∙ exactly.1 h)
 
-granted_exactly_to_true : {I : Type 0} (t : Ghosts I) → Lawful t → (bs : List ℕ) → Bytes bs → IsOfType t bs → (b : Bool) → b ≡ (saying t (reading t 1024 bs)).granted →
+pub granted_exactly_to_true : {I : Type 0} (t : Ghosts I) → Lawful t → (bs : List ℕ) → Bytes bs → IsOfType t bs → (b : Bool) → b ≡ (saying t (reading t 1024 bs)).granted →
     (b ≡ true → TrueTraceOfEither bs) × (TrueTraceOfEither bs → b ≡ true)
 granted_exactly_to_true t law bs bytes type b s =
     let g = granted_outcome t (reading t 1024 bs) b s in

@@ -1,9 +1,9 @@
 // From the bytes of a trace to the text that is printed of it.
-ghost use Rattle.std.specs.Prelude.{◌≡◌, ◌+◌, ◌*◌, ◌≤◌, min, true, length};
+ghost use Rattle.std.specs.Prelude.{◌≡◌, ◌≤◌, true, length};
 ghost use Rattle.sheet.specs.Sheets.{entered};
 ghost use Rattle.frame.specs.Kinds.{kind_number};
 ghost use Rattle.frame.specs.Orders.{order_of};
-ghost use Rattle.trace.specs.Reading.{reading};
+ghost use Rattle.trace.specs.Reading.{reading, Enough};
 ghost use Rattle.examination.specs.Kinds.{seat_of};
 ghost use Rattle.examination.specs.Traces.{TrueTraceOfEither};
 ghost use Rattle.text.specs.Contents.{content, with_words};
@@ -55,7 +55,7 @@ fn say_report<I: Item, const N: usize>(
 ) -> bool
     requires few { length records.old ≤ N }
     requires bounded { N ≤ 1024 }
-    requires enough { min (length bytes.now) 26632 ≤ 8 + 26 * length records.old }
+    requires enough { Enough (length records.old) bytes.now }
     ensures granted { result ≡ (saying I.Item (reading I.Item 1024 bytes.now)).granted }
     ensures said { content text.new ≡ with_words (saying I.Item (reading I.Item 1024 bytes.now)).text (content text.old) }
     ensures short { length (saying I.Item (reading I.Item 1024 bytes.now)).text ≤ 150639 }
@@ -73,7 +73,7 @@ fn say_report<I: Item, const N: usize>(
 // The same for the item type of the trace, in `N` records, enough for a trace of that length.
 fn say_within<const N: usize>(bytes: &[u8], text: &mut Text) -> bool
     requires bounded { N ≤ 1024 }
-    requires enough { min (length bytes.now) 26632 ≤ 8 + 26 * N }
+    requires enough { Enough N bytes.now }
     ensures granted { result ≡ (report_on bytes.now).granted }
     ensures said { content text.new ≡ with_words (report_on bytes.now).text (content text.old) }
     ensures short { length (report_on bytes.now).text ≤ 150639 }

@@ -1,4 +1,4 @@
--- A trace reads the same with room for as many operations as its length allows as with room for 1,024.
+-- A trace is read the same with records that are enough for its length as with 1,024.
 use Rattle.std.proofs.Common.{◌≡◌, ℕ, zero, suc, ◌+◌, ◌*◌, ◌<◌, ◌≤◌, min, List, [], length, Ok, Err, Result, nat_le, refl, sym, ap, ◌∙◌, arith, false}
 use Rattle.std.proofs.lemmas.Bool.Decides.{nat_tests}
 use Rattle.std.proofs.lemmas.List.{length_push}
@@ -13,7 +13,7 @@ use Rattle.frame.specs.declared.header.Header.{Header}
 use Rattle.frame.specs.Layout.{record_at}
 use Rattle.frame.specs.Headers.{frame_of}
 use Rattle.frame.proofs.HeaderFields.{frame_back}
-use Rattle.trace.specs.Reading.{RecordsTaken, if_entered, if_decoded, operation_taken, after_record, after_next, records_taken, outcome_after, outcome_by_header, reading}
+use Rattle.trace.specs.Reading.{RecordsTaken, if_entered, if_decoded, operation_taken, after_record, after_next, records_taken, outcome_after, outcome_by_header, reading, Enough}
 use Rattle.trace.specs.Reading.RecordsTaken.{going, stopped}
 use Rattle.trace.proofs.RecordsTaken.{after_back}
 
@@ -55,7 +55,6 @@ module _ {I : Type 0} (t : Ghosts I) (room other : ℕ) (bs : List ℕ) where
   same_taken (suc n) a b =
       same_next n (records_taken t room bs n) (count_taken n) (omega arith) (omega arith) ∙ ap (after_next t other bs n) (same_taken n (omega arith) (omega arith))
 
--- where each operation takes 26 bytes behind the 8 of the header, of which a header allows 1,024
 module _ {I : Type 0} (t : Ghosts I) (n : ℕ) (bs : List ℕ) where
   same_by_header : (r : Result Header FrameFault) → Bytes bs → min (length bs) 26632 ≤ 8 + 26 * n → frame_of t.TYPE bs ≡ r →
       outcome_by_header t (min n 1024) bs r ≡ outcome_by_header t 1024 bs r
@@ -66,6 +65,6 @@ module _ {I : Type 0} (t : Ghosts I) (n : ℕ) (bs : List ℕ) where
       let long = f.long in
       ap (outcome_after h bs) (same_taken t (min n 1024) 1024 bs h.count (omega arith) few)
 
-  -- read onto a sheet over n records
-  pub enough_room : (room : ℕ) → room ≡ min n 1024 → Bytes bs → min (length bs) 26632 ≤ 8 + 26 * n → reading t room bs ≡ reading t 1024 bs
+  -- onto a sheet over n records
+  pub enough_room : (room : ℕ) → room ≡ min n 1024 → Bytes bs → Enough n bs → reading t room bs ≡ reading t 1024 bs
   enough_room room full b l = ap (λ m. reading t m bs) full ∙ same_by_header (frame_of t.TYPE bs) b l refl

@@ -1,5 +1,5 @@
 -- What reading a trace comes to.
-use Rattle.std.specs.Prelude.{ℕ, zero, suc, ◌+◌, ◌*◌, List, [], ◌∷◌, ◌++◌, drop, Ok, Err, Result}
+use Rattle.std.specs.Prelude.{ℕ, zero, suc, ◌+◌, ◌*◌, ◌≤◌, min, List, [], ◌∷◌, ◌++◌, length, drop, Ok, Err, Result}
 use Rattle.item.specs.declared.item.Item.{Ghosts}
 use Rattle.sheet.specs.declared.operation.Operation.{Operation}
 use Rattle.sheet.specs.declared.fault.SheetFault.{SheetFault}
@@ -26,6 +26,11 @@ pub data Outcome (I : Type 0) : Type 0 where
   unread : FrameFault → Outcome I
   refused : List (Operation I) → ℕ → EntryFault → Outcome I
   accepted : Contents I → Outcome I
+
+-- so many records are enough for every trace of that length: an operation takes 26 bytes, behind the 8 of the header, and a header
+-- allows at most 1,024 operations
+abbrev pub Enough : ℕ → List ℕ → Type 0
+Enough records bs = min (length bs) 26632 ≤ 8 + 26 * records
 
 module _ {I : Type 0} where
   -- the operation, if the sheet took it
